@@ -1,0 +1,4 @@
+pub mod Drafts
+pub mod Faults
+pub mod Networks
+pub mod Tables
