@@ -1,2 +1,4 @@
+pub mod Filling
 pub mod Numbers
+pub mod Progress
 pub mod Records

@@ -1,3 +1,4 @@
 pub mod Faults
 pub mod Format
+pub mod Loading
 pub mod Reading
