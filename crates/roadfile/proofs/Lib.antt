@@ -1,3 +1,4 @@
+pub mod Faith
 pub mod Filling
 pub mod Numbers
 pub mod Progress

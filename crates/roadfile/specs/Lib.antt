@@ -2,3 +2,4 @@ pub mod Faults
 pub mod Format
 pub mod Loading
 pub mod Reading
+pub mod Runs
