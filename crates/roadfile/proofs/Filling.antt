@@ -107,16 +107,15 @@ laid t es s e m d d′ t′ t″ n h (_, from, to, few, room, is, places, roads,
       serves = record {
         long = omega (arith, length-set t′ n r, roads, room);
         named = λ i x lt. ⊎-elim
-          (λ low. let other : getD (set t′ n r) i x ≡ getD t′ i x = getD-set-other t′ n i r x (λ eq. omega arith) in
+            (λ low. let other : getD (set t′ n r) i x ≡ getD t′ i x = getD-set-other t′ n i r x (λ eq. omega arith) in
             subst (Within (d′ .places)) (sym other) (wider (d .places) (d′ .places) (getD t′ i x) (omega arith) (h .serves .named i x low)))
-          (λ high. let here : i ≡ n = omega arith in
+            (λ high. let here : i ≡ n = omega arith in
             subst (Within (d′ .places)) (sym (ap (λ k. getD (set t′ n r) k x) here ∙ getD-set-same t′ n r x (omega arith))) (record { starts = omega arith; ends = omega arith }))
-          (cases-lt i (d .roads));
+            (cases-lt i (d .roads));
       };
       same = length-set t′ n r ∙ h .same;
       table = ap (λ k. set t′ k r) at ∙ laid-table t es s e m t′ r refl (omega (arith, h .roads, h .same)) (h .table);
-    } in
-    (
+    } in (
       (omega (arith, h .places), omega (arith, h .places), omega (arith, h .roads), omega (arith, h .roads, h .same)),
       subst (λ x. Drafted t d′ (es ++ road s e m ∷ []) x) (sym put) after,
     )
@@ -171,16 +170,16 @@ fills-more file t es left e d′ t′ t″ h l on may after = record {
   bytes = h .bytes ∙ ap (λ x. (header ++ joined written es) ++ x) (l .bytes) ∙ sym (append-assoc (header ++ joined written es) (written e) (drop (length (written e)) left)) ∙ ap (λ x. x ++ drop (length (written e)) left) (joined-more written header es e);
   proper = every-snoc (λ x. Proper x × (ends x ≡ false)) es e (h .proper) (l .proper, on);
   added = λ i d lt. ⊎-elim
-    (λ low.
-        let front : take i (es ++ e ∷ []) ≡ take i es = take-append-le i es (e ∷ []) (omega arith) in
-        let same : getD (es ++ e ∷ []) i d ≡ getD es i d = getD-append-left es (e ∷ []) d i low in
-        subst (λ x. Addable (length t) x (getD (es ++ e ∷ []) i d)) (sym front) (subst (Addable (length t) (take i es)) (sym same) (h .added i d low)))
-    (λ high.
-        let last : length es ≡ i = omega (arith, length-push es e) in
-        let front : take i (es ++ e ∷ []) ≡ es = take-at es (e ∷ []) i last in
-        let same : getD (es ++ e ∷ []) i d ≡ e = getD-push es e d i last in
-        subst (λ x. Addable (length t) x (getD (es ++ e ∷ []) i d)) (sym front) (subst (Addable (length t) es) (sym same) may))
-    (cases-lt i (length es));
+      (λ low.
+      let front : take i (es ++ e ∷ []) ≡ take i es = take-append-le i es (e ∷ []) (omega arith) in
+      let same : getD (es ++ e ∷ []) i d ≡ getD es i d = getD-append-left es (e ∷ []) d i low in
+      subst (λ x. Addable (length t) x (getD (es ++ e ∷ []) i d)) (sym front) (subst (Addable (length t) (take i es)) (sym same) (h .added i d low)))
+      (λ high.
+      let last : length es ≡ i = omega (arith, length-push es e) in
+      let front : take i (es ++ e ∷ []) ≡ es = take-at es (e ∷ []) i last in
+      let same : getD (es ++ e ∷ []) i d ≡ e = getD-push es e d i last in
+      subst (λ x. Addable (length t) x (getD (es ++ e ∷ []) i d)) (sym front) (subst (Addable (length t) es) (sym same) may))
+      (cases-lt i (length es));
   table = after .table;
 }
 

@@ -24,5 +24,5 @@ little-four l at n a b c d h ea eb ec ed la lb lc ld e =
     let fourth : getD l (at + 1 + 1 + 1) 0 ≡ d = ap (λ j. getD l j 0) (omega arith) ∙ ed in
     little-more l at 3 n a (omega arith) ea (omega arith)
     (little-more l (at + 1) 2 (n / 256) b (omega arith) eb (omega arith)
-      (little-more l (at + 1 + 1) 1 (n / 256 / 256) c (omega arith) third (omega arith)
-        (little-more l (at + 1 + 1 + 1) 0 (n / 256 / 256 / 256) d (omega arith) fourth (omega arith) (ap (λ j. drop j l) (omega arith)))))
+    (little-more l (at + 1 + 1) 1 (n / 256 / 256) c (omega arith) third (omega arith)
+    (little-more l (at + 1 + 1 + 1) 0 (n / 256 / 256 / 256) d (omega arith) fourth (omega arith) (ap (λ j. drop j l) (omega arith)))))

@@ -9,22 +9,18 @@ use Rattle.std.specs.declared.option.Option.the-variants.{Some, None}
 use Rattle.std.specs.declared.result.Result.the-variants.{Ok, Err}
 use Rattle.std.specs.Joined.{joined}
 use Rattle.std.proofs.shelf.Lists.{take-at, drop-at}
-use Rattle.roads.specs.Drafts.{Closed, ClosingRefused}
+use Rattle.roads.specs.Drafts.{Closed}
 use Rattle.roads.specs.Tables.{turned, opened}
 use Rattle.roads.specs.declared.draft.Draft.{Draft}
-use Rattle.roads.specs.declared.draft.calls.Unclosed.{Unclosed}
-use Rattle.roads.specs.declared.fault.DraftFault.{DraftFault}
-use Rattle.roads.specs.declared.fault.DraftFault.the-variants.{UnknownPlace, PlacesFull, RoadsFull, NoPlace, ForeignTable}
 use Rattle.roads.specs.declared.network.Network.{Network}
 use Rattle.roads.specs.declared.road.Road.{Road}
 use Rattle.roadfile.specs.declared.fault.FileFault.{FileFault}
-use Rattle.roadfile.specs.declared.fault.FileFault.the-variants as fault
 use Rattle.roadfile.specs.declared.fault.LoadFault.{LoadFault}
 use Rattle.roadfile.specs.declared.reader.Reader.{Reader}
 use Rattle.roadfile.specs.declared.reader.Item.{Item}
 use Rattle.roadfile.specs.Format.{Entry, place, road, remark, finish, entry, header, written, ends}
 use Rattle.roadfile.specs.Loading.{places-of, roads-of, count-of, Added, Fills, Stops, place-of, Broken, Whole}
-use Rattle.roadfile.specs.Reading.{Leads, Unreadable, left-of, offset-of, Opened, Handed, Ended}
+use Rattle.roadfile.specs.Reading.{Leads, left-of, offset-of, Opened, Handed, Ended}
 use Rattle.roadfile.proofs.Records.{leads-length}
 use Rattle.roadfile.proofs.Filling.{Drafted, adds, refuses, drafts-fault, fills-more}
 
@@ -92,17 +88,17 @@ module _ (file : List ℕ) (t : List Road) where
           done = λ is. absurd (true-not-false is (stop ∙ ends-not));
         } in
         let halt : ends e ≡ true → Sofar file t s′ d′ t″ (i .offset) = λ ends-so.
-          let is = ends-is e ends-so in
-          let (_, ed, et) = subst (λ x. Added x d t′ (Ok tt) d′ t″) is a in
-          record {
-            before = h .before;
-            left = h .left;
-            fills = subst (λ x. Fills file t (h .before) (h .left) x) (sym et) (h .fills);
-            drafted = subst (λ x. Drafted t x (h .before) t″) (sym ed) (subst (λ x. Drafted t d (h .before) x) (sym et) (h .drafted));
-            size = size ∙ h .size;
-            going = λ is-not. absurd (true-not-false (stop ∙ ends-so) is-not);
-            done = λ _. (h .going on ∙ l .bytes ∙ ap (λ x. written e ++ x) (sym rest) ∙ ap (λ x. written x ++ left-of s′) is, at-i ∙ offset-is on);
-          } in
+        let is = ends-is e ends-so in
+        let (_, ed, et) = subst (λ x. Added x d t′ (Ok tt) d′ t″) is a in
+        record {
+          before = h .before;
+          left = h .left;
+          fills = subst (λ x. Fills file t (h .before) (h .left) x) (sym et) (h .fills);
+          drafted = subst (λ x. Drafted t x (h .before) t″) (sym ed) (subst (λ x. Drafted t d (h .before) x) (sym et) (h .drafted));
+          size = size ∙ h .size;
+          going = λ is-not. absurd (true-not-false (stop ∙ ends-so) is-not);
+          done = λ _. (h .going on ∙ l .bytes ∙ ap (λ x. written e ++ x) (sym rest) ∙ ap (λ x. written x ++ left-of s′) is, at-i ∙ offset-is on);
+        } in
         elim (ends e) as (λ b. (ends e ≡ b → Sofar file t s′ d′ t″ (i .offset))) [ true ↦ halt | false ↦ go ] refl
 
     pub refused : (i : Item) (s′ : Reader) (d′ : Draft) (t″ : List Road) (f : FileFault) → Handed s (Ok (Some i)) s′ → Added (entry (i .record)) d t′ (Err f) d′ t″ → Broken file t f (i .offset) t″
@@ -117,20 +113,6 @@ module _ (file : List ℕ) (t : List Road) where
           stops = why;
           told = at-i ∙ offset-is on ∙ ap (λ x. place-of x file (h .left)) (sym is);
         }
-
-    -- the reader's own faults
-    stops-unread : (f : FileFault) → Unreadable (h .left) f → Stops (length t) (h .before) (h .left) f × (length file - length (h .left) ≡ place-of f file (h .left))
-    stops-unread fault.Cut u = (u, refl)
-    stops-unread fault.Form u = (u, refl)
-    stops-unread fault.Letters u = absurd u
-    stops-unread fault.Version u = absurd u
-    stops-unread fault.Extra u = absurd u
-    stops-unread (fault.Draft f) u = absurd u
-
-    pub unread : (s′ : Reader) (f : LoadFault) → Handed s (Err f) s′ → Broken file t (f .fault) (f .offset) t′
-    unread s′ f (on, u, at-f, _, _, _) =
-        let (why, told) = stops-unread (f .fault) (subst (λ x. Unreadable x (f .fault)) (sym (h .going on)) u) in
-        record { before = h .before; left = h .left; fills = h .fills; stops = why; told = at-f ∙ offset-is on ∙ told }
 
     -- bytes behind the end record
     pub extra : (f : LoadFault) → s .done ≡ true → Ended s (Err f) → Broken file t (f .fault) (f .offset) t′
@@ -178,21 +160,4 @@ module _ (file : List ℕ) (t : List Road) where
       some = omega (arith, h .drafted .places);
       places = places ∙ h .drafted .places;
       roads = roads ∙ h .drafted .roads;
-    }
-
-    -- why a draft that a file filled is not closed
-    stops-closing : (f : DraftFault) → s .done ≡ true → left-of s ≡ [] → ClosingRefused d t′ f → Stops (length t) (h .before) (h .left) (fault.Draft f)
-    stops-closing NoPlace off none (_, zero) = (left-finish off none, sym (h .drafted .places) ∙ zero)
-    stops-closing ForeignTable off none r = absurd (r (h .drafted .serves))
-    stops-closing UnknownPlace off none r = absurd r
-    stops-closing PlacesFull off none r = absurd r
-    stops-closing RoadsFull off none r = absurd r
-
-    pub unclosed : (u : Unclosed) (t″ : List Road) (f : FileFault) → s .done ≡ true → left-of s ≡ [] → Closed d t′ (Err u) t″ → f ≡ fault.Draft (u .fault) → Broken file t f at t″
-    unclosed u t″ f off none (why, _, same) is = record {
-      before = h .before;
-      left = h .left;
-      fills = subst (λ x. Fills file t (h .before) (h .left) x) (sym same) (h .fills);
-      stops = subst (Stops (length t) (h .before) (h .left)) (sym is) (stops-closing (u .fault) off none why);
-      told = h .done off .1 ∙ ap (λ x. place-of x file (h .left)) (sym is);
     }

@@ -53,7 +53,7 @@ impl FileFault {
             FileFault::Cut => 3,
             FileFault::Form => 4,
             FileFault::Extra => 5,
-            FileFault::Draft(fault) => fault.number(),
+            FileFault::Draft(inner) => inner.number(),
         }
     }
 

@@ -15,7 +15,11 @@ pub enum Record<'a> {
     // A place, by its name.
     Place(&'a [u8]),
     // A road, by the numbers of its places and its four marks.
-    Road { start: u16, end: u16, marks: [u32; 4] },
+    Road {
+        start: u16,
+        end: u16,
+        marks: [u32; 4],
+    },
     // A remark, which means nothing to the network.
     Remark(&'a [u8]),
     // The end of the file.
@@ -52,7 +56,12 @@ fn road_of(body: &[u8]) -> Record<'static>
 {
     let start = u16_at(body, 0);
     let end = u16_at(body, 2);
-    let marks = [u32_at(body, 4), u32_at(body, 8), u32_at(body, 12), u32_at(body, 16)];
+    let marks = [
+        u32_at(body, 4),
+        u32_at(body, 8),
+        u32_at(body, 12),
+        u32_at(body, 16),
+    ];
     Record::Road { start, end, marks }
 }
 

@@ -14,8 +14,8 @@ abbrev pub unread : Road
 unread = record { start = 0; end = 0; marks = []; «open» = false }
 
 -- the road at i, by whichever default it is read
-pub changed-at : (f : Road → Road) (t : List Road) (i j : ℕ) → j ≡ i → i < length t → (d : Road) → set t j (f (getD t j unread)) ≡ set t i (f (getD t i d))
-changed-at f t i j e h d = ap (λ k. set t k (f (getD t k unread))) e ∙ ap (λ r. set t i (f r)) (getD-default t i unread d h)
+pub changed-at : (f : Road → Road) (t : List Road) (i : ℕ) → i < length t → (d : Road) → set t i (f (getD t i unread)) ≡ set t i (f (getD t i d))
+changed-at f t i h d = ap (λ r. set t i (f r)) (getD-default t i unread d h)
 
 pub opened-more : (t : List Road) (i : ℕ) (d : Road) → i < length t → set (opened i t) i (turned true (getD (opened i t) i d)) ≡ opened (i + 1) t
 opened-more t i d h =

@@ -2,7 +2,7 @@ ghost use Rattle.std.specs.Orderings.{Decides};
 ghost use mathlib.Core.Path.{_≡_};
 ghost use Prim.Native.Nat.{_≤_};
 ghost use lib.ListN.{length};
-ghost use Rattle.roads.specs.Tables.{Serves, opened};
+ghost use Rattle.roads.specs.Tables.{Within, Serves, opened};
 
 // One road: the places where it starts and ends, its four marks, and whether it may be used.
 #[derive(Clone, Copy)]
@@ -11,6 +11,15 @@ pub struct Road {
     pub end: u32,
     pub marks: [u32; 4],
     pub open: bool,
+}
+
+impl Road {
+    // Whether the road names places that exist, where there are so many.
+    pub fn within(&self, places: u32) -> bool
+        ensures { λ r. ⌜ Decides r (Within places (now (self .entry))) ⌝ }
+    {
+        self.start < places && self.end < places
+    }
 }
 
 // Whether a road table serves a network of so many places and roads: it is long enough, and every counted road names places that exist.
@@ -22,7 +31,7 @@ pub fn serves(table: &[Road], places: u32, roads: u32) -> bool
         return false;
     }
     for i in 0..count {
-        if table[i].start >= places || table[i].end >= places {
+        if !table[i].within(places) {
             return false;
         }
     }

@@ -1,5 +1,6 @@
 // The program: a road file from standard input to its record on standard output.
 ghost use Prim.Native.Nat.{_≤_};
+ghost use lib.ListN.{length};
 ghost use Rattle.std.specs.Vec.{made};
 use report::write_record;
 use std::io;
@@ -10,15 +11,12 @@ use std::io::Write;
 const LOOK: usize = 65537;
 
 // Fills the table from the input, as far as the input reaches; tells how many bytes came.
-fn fill<R: Read>(input: &mut R, table: &mut [u8; LOOK]) -> io::Result<usize>
-    ensures { λ r. ⌜ made r (λ n. n ≤ 65537) ⌝ }
+fn fill<R: Read>(input: &mut R, table: &mut [u8]) -> io::Result<usize>
+    ensures { λ r. ⌜ made r (λ n. n ≤ length (now (table .entry))) ⌝ }
 {
     let mut size = 0;
     // Each turn brings a byte or ends the loop.
-    for _ in 0..LOOK {
-        if size >= LOOK {
-            break;
-        }
+    for _ in 0..table.len() {
         let more = input.read(&mut table[size..])?;
         if more == 0 {
             break;

@@ -10,6 +10,7 @@ use crate::serves;
 
 // The most places and roads that a network may have.
 const PLACES: u32 = 2048;
+
 const ROADS: u32 = 16384;
 
 // A closing that was refused: the draft as it was, and why.
@@ -25,21 +26,10 @@ impl Draft {
         ensures places { λ r. ⌜ r .places ≡ 0 ⌝ }
         ensures roads { λ r. ⌜ r .roads ≡ 0 ⌝ }
     {
-        Draft { places: 0, roads: 0 }
-    }
-
-    // How many places have been added.
-    pub fn places(&self) -> u32
-        ensures { λ r. ⌜ r ≡ now (self .entry) .places ⌝ }
-    {
-        self.places
-    }
-
-    // How many roads have been added.
-    pub fn roads(&self) -> u32
-        ensures { λ r. ⌜ r ≡ now (self .entry) .roads ⌝ }
-    {
-        self.roads
+        Draft {
+            places: 0,
+            roads: 0,
+        }
     }
 
     // Adds a place and answers its number.
@@ -55,7 +45,13 @@ impl Draft {
     }
 
     // Adds an open road, into the table's next entry, and answers its number.
-    pub fn road(&mut self, table: &mut [Road], start: u32, end: u32, marks: [u32; 4]) -> Result<u32, DraftFault>
+    pub fn road(
+        &mut self,
+        table: &mut [Road],
+        start: u32,
+        end: u32,
+        marks: [u32; 4],
+    ) -> Result<u32, DraftFault>
         ensures { λ r. ⌜ Laid (now (self .entry)) (now (table .entry)) start end marks r (now (self .exit)) (now (table .exit)) ⌝ }
     {
         if !serves(table, self.places, self.roads) {
@@ -69,7 +65,12 @@ impl Draft {
         if number >= ROADS || at >= table.len() {
             return Err(DraftFault::RoadsFull);
         }
-        table[at] = Road { start, end, marks, open: true };
+        table[at] = Road {
+            start,
+            end,
+            marks,
+            open: true,
+        };
         self.roads = number + 1;
         Ok(number)
     }
@@ -79,10 +80,16 @@ impl Draft {
         ensures { λ r. ⌜ Closed self (now (table .entry)) r (now (table .exit)) ⌝ }
     {
         if !serves(table, self.places, self.roads) {
-            return Err(Unclosed { draft: self, fault: DraftFault::ForeignTable });
+            return Err(Unclosed {
+                draft: self,
+                fault: DraftFault::ForeignTable,
+            });
         }
         if self.places == 0 {
-            return Err(Unclosed { draft: self, fault: DraftFault::NoPlace });
+            return Err(Unclosed {
+                draft: self,
+                fault: DraftFault::NoPlace,
+            });
         }
         open_all(table, self.roads as usize);
         Ok(Network {

@@ -1,5 +1,8 @@
 ghost use mathlib.Core.Path.{_≡_};
 ghost use mathlib.Core.Bool.{true, false};
+ghost use Prim.Native.Nat.{_<_};
+ghost use lib.ListN.{length, getD, set};
+ghost use Rattle.roads.specs.Tables.{turned, marked};
 ghost use Rattle.roads.specs.Networks.{ReMarked, Turned, Found};
 use crate::Network;
 use crate::NetworkFault;
@@ -22,14 +25,20 @@ impl Network {
     }
 
     // Sets one mark of one road.
-    pub fn re_mark(&self, table: &mut [Road], road: u32, mark: u32, value: u32) -> Result<(), NetworkFault>
+    pub fn re_mark(
+        &self,
+        table: &mut [Road],
+        road: u32,
+        mark: u32,
+        value: u32,
+    ) -> Result<(), NetworkFault>
         ensures { λ r. ⌜ ReMarked (now (self .entry)) (now (table .entry)) road mark value r (now (table .exit)) ⌝ }
     {
         let at = self.find(table, road)?;
         if mark >= 4 {
             return Err(NetworkFault::NoSuchMark);
         }
-        table[at].marks[mark as usize] = value;
+        set_mark(table, at, mark as usize, value);
         Ok(())
     }
 
@@ -38,7 +47,7 @@ impl Network {
         ensures { λ r. ⌜ Turned (now (self .entry)) (now (table .entry)) road false r (now (table .exit)) ⌝ }
     {
         let at = self.find(table, road)?;
-        table[at].open = false;
+        set_open(table, at, false);
         Ok(())
     }
 
@@ -47,7 +56,7 @@ impl Network {
         ensures { λ r. ⌜ Turned (now (self .entry)) (now (table .entry)) road true r (now (table .exit)) ⌝ }
     {
         let at = self.find(table, road)?;
-        table[at].open = true;
+        set_open(table, at, true);
         Ok(())
     }
 
@@ -63,4 +72,21 @@ impl Network {
         }
         Ok(road as usize)
     }
+}
+
+// Sets mark `mark` of the road at `at`.
+fn set_mark(table: &mut [Road], at: usize, mark: usize, value: u32)
+    requires { ⌜ at < length (now table) ⌝ }
+    requires { ⌜ mark < 4 ⌝ }
+    ensures { λ _. ⌜ ((d : Road) → now (table .exit) ≡ set (now (table .entry)) at (marked mark value (getD (now (table .entry)) at d))) ⌝ }
+{
+    table[at].marks[mark] = value;
+}
+
+// Opens or shuts the road at `at`.
+fn set_open(table: &mut [Road], at: usize, open: bool)
+    requires { ⌜ at < length (now table) ⌝ }
+    ensures { λ _. ⌜ ((d : Road) → now (table .exit) ≡ set (now (table .entry)) at (turned «open» (getD (now (table .entry)) at d))) ⌝ }
+{
+    table[at].open = open;
 }

@@ -6,7 +6,7 @@ use Rattle.std.specs.declared.option.Option.the-variants.{Some, None}
 use Rattle.std.specs.declared.result.Result.the-variants.{Ok, Err}
 use Rattle.std.proofs.shelf.Results.{err-from-errBy}
 use Rattle.roadfile.specs.Reading.{Handed, Ended, left-of}
-use Rattle.roadfile.proofs.Progress.{shrinks, start, more, refused, unread, extra, whole, unclosed}
+use Rattle.roadfile.proofs.Progress.{shrinks, start, more, refused, extra, whole}
 use Rattle.roadfile.proofs.loading.load.Needs as need
 use Rattle.roadfile.proofs.loading.load.Needs.{In-Some, In-rest}
 
@@ -41,13 +41,3 @@ pub returns-in-Ok : need.returns-in-Ok
 returns-in-Ok c =
     let (off, same) = none (need.at·returns-in-Ok c .In-rest) in
     whole _ _ _ _ _ _ (c .loop-item .inv) (c .in-Ok .network) (c .close .last .table) off (subst (λ s. left-of s ≡ []) same (c .in-Continue-finish .ensures tt)) (c .in-Ok .ensures tt)
-
-pub returns-in-Break-item : need.returns-in-Break-item
-returns-in-Break-item c =
-    let p = err-from-errBy (c .from-residual-in-Break-item .result) (c .from-residual-in-Break-item .ensures .1) in
-    rw (p .1, p .2) (inr (unread _ _ _ _ _ _ (c .loop-item .inv) (c .next .last .self) (c .in-Break-item .field-0 .0) (c .in-Break-item .ensures tt)))
-
-pub returns-in-Err-close : need.returns-in-Err-close
-returns-in-Err-close c =
-    let (off, same) = none (need.at·returns-in-Err-close c .In-rest) in
-    inr (unclosed _ _ _ _ _ _ (c .loop-item .inv) (c .in-Err-close .unclosed) (c .close .last .table) _ off (subst (λ s. left-of s ≡ []) same (c .in-Continue-finish .ensures tt)) (c .in-Err-close .ensures tt) (c .from .ensures))

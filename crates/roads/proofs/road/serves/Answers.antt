@@ -1,4 +1,4 @@
-use mathlib.Core.Path.{_≡_, subst, sym, ap, _∙_}
+use mathlib.Core.Path.{_≡_, refl, subst, sym, ap, _∙_}
 use mathlib.Core.Logic.{⊎-elim}
 use Prim.Native.Nat.{_<_}
 use native.Mathlib.Omega.{arith}
@@ -12,10 +12,10 @@ use Rattle.roads.proofs.road.serves.Needs as need
 pub loop-i-again : need.loop-i-again
 loop-i-again c = λ j d h.
     let t = c .args .table .now in
+    let i = c .loop-i .i in
     ⊎-elim (λ lt. c .loop-i .inv j d lt)
     (λ ge.
-        let same : j ≡ c .loop-i .i = omega arith in
-        let within : c .loop-i .i < length t = omega arith in
-        let read : getD t (c .loop-i .i) unread ≡ getD t j d = getD-default t (c .loop-i .i) unread d within ∙ ap (λ k. getD t k d) (sym same) in
-        subst (Within (c .args .places)) read (record { starts = c .if-table-i .left; ends = c .if-table-i-2 .left }))
-    (cases-lt j (c .loop-i .i))
+    let same : i ≡ j = omega arith in
+    let inside : i < length t = omega arith in
+    subst (Within (c .args .places)) (getD-default t i unread d inside ∙ ap (λ k. getD t k d) same) (c .within .ensures .0 (c .if-not-within .left)))
+    (cases-lt j i)
