@@ -159,7 +159,11 @@ def yard():
     return HEADER + b"".join(place(bytes([c])) for c in b"ABCD") + b"".join(road(*r) for r in YARD) + LAST
 
 
-# ---- cases: the room of the road table, and the parts of the file, each bytes or (bytes, times)
+# ---- cases: the room of the road table, and the parts of the file, each of them bytes or (bytes, times)
+
+
+def repeated(unit, times):
+    return [(unit, times)] if times else []
 
 
 def yard_cases():
@@ -182,10 +186,10 @@ def head_cases():
             head = bytes([kind, length])
             yield 1, [HEADER + head]
             if head_allowed(kind, length):
-                body = (b"\0", length)
-                yield 1, [HEADER + place(b"A") + head] + [body] * (length > 0) + [LAST] * (kind != END)
+                end = b"" if kind == END else LAST
+                yield 1, [HEADER + place(b"A") + head, *repeated(b"\0", length), end]
             if head_allowed(kind, length) and length > 0:
-                yield 1, [HEADER + head] + [(b"\0", length - 1)] * (length > 1)
+                yield 1, [HEADER + head, *repeated(b"\0", length - 1)]
 
 
 def header_cases():
@@ -207,9 +211,11 @@ def name_cases():
     for size in (0, 1, 32, 33):
         yield 1, [HEADER + bytes([PLACE, size]) + b"A" * size + LAST]
         yield 1, [HEADER + bytes([PLACE, size]) + b"A" * size + road(0, 0, 1, 2, 3, 4) + LAST]
-    for size in (0, 255):
-        yield 1, [HEADER + bytes([REMARK, size]), (b"r", size), LAST] if size else [HEADER + remark(b"") + LAST]
-        yield 1, [HEADER + place(b"A") + bytes([REMARK, size])] + [(b"r", size)] * (size > 0) + [LAST]
+    for size in (0, 1, 254, 255):
+        yield 1, [HEADER + bytes([REMARK, size]), *repeated(b"r", size), LAST]
+        yield 1, [HEADER + place(b"A") + bytes([REMARK, size]), *repeated(b"r", size), LAST]
+    # More remarks than 16 bits can count, in bytes and in offsets.
+    yield 1, [HEADER + place(b"A"), (remark(b"ab"), 40000), LAST]
     # Names are bytes: any of them, and two places may have one name.
     yield 1, [HEADER + place(bytes(range(32))) + place(bytes(range(224, 256))) + LAST]
     yield 1, [HEADER + place(b"A") + place(b"A") + road(1, 0, 1, 1, 1, 1) + LAST]
@@ -241,7 +247,7 @@ def road_cases():
     # With no more room than a network may have roads, one more than that, and one less.
     for room in (16383, 16384, 16385):
         yield room, [HEADER + two, (step, 16385), LAST]
-    # Of what is wrong with the road that is too many, its place comes first; a cut and a bad length come before both.
+    # The road that is too many names a place that is none, is cut, or has another length: that comes first.
     yield 16400, [HEADER + two, (step, 16384), road(2, 0, 1, 1, 1, 1) + LAST]
     yield 16400, [HEADER + two, (step, 16384), step[:-1]]
     yield 16400, [HEADER + two, (step, 16384), bytes([ROAD, 19]) + LAST]
@@ -254,10 +260,9 @@ def road_cases():
     yield 1, [HEADER + two + step + step + b"\xff\xff"]
     # The numbers of places: the last one and the one after it, at the start, at the end and at both.
     for count in (0, 1, 2, 3, 255, 256, 257):
-        names = (place(b"P"), count)
         for start, end in ((count - 1, 0), (0, count - 1), (count, 0), (0, count), (count, count), (65535, 65535)):
             if start >= 0 and end >= 0:
-                yield 4, [HEADER] + [names] * (count > 0) + [road(start, end, 1, 2, 3, 4) + LAST]
+                yield 4, [HEADER, *repeated(place(b"P"), count), road(start, end, 1, 2, 3, 4) + LAST]
     # A road before its place, and the same road behind it.
     yield 4, [HEADER + one + step + place(b"B") + LAST]
     yield 4, [HEADER + one + place(b"B") + step + LAST]
@@ -314,9 +319,9 @@ class Dice:
 def random_file(dice):
     """A well-formed file of a few records; its roads name places that stand before them."""
     parts, places = [HEADER], 0
-    for _ in range(dice.below(7)):
+    for _ in range(1 + dice.below(6)):
         what = dice.below(5)
-        if what <= 1 or places == 0 and what <= 3:
+        if what <= 1 or (what <= 3 and places == 0):
             parts.append(place(dice.bytes(1 + dice.below(4))))
             places += 1
         elif what <= 3:

@@ -10,6 +10,7 @@ pub use fault::FileFault;
 pub use fault::FileFaultFromDraft;
 pub use fault::Layer;
 pub use fault::LoadFault;
+pub use laws::one_outcome;
 pub use laws::reading_is_faithful;
 pub use loading::load;
 pub use reader::Item;
