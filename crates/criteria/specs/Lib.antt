@@ -1,0 +1,10 @@
+pub mod Meaning
+pub mod Comparison
+pub mod Fault
+pub mod Sum
+pub mod Limit
+pub mod Peak
+pub mod Lexical
+pub mod Cancellation
+pub mod Covers
+pub mod Warnings

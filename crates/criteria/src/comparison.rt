@@ -1,0 +1,7 @@
+// How the first of two values stands to the second.
+#[derive(Clone, Copy)]
+pub enum Comparison {
+    Better,
+    Equal,
+    Worse,
+}
