@@ -1,0 +1,3 @@
+pub mod Complete
+pub mod Growing
+pub mod Grown

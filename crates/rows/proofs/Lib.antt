@@ -1,0 +1,4 @@
+pub mod Checks
+pub mod Counts
+pub mod Filter
+pub mod Sources

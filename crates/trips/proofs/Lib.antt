@@ -1,0 +1,10 @@
+pub mod Efficient
+pub mod Elements
+pub mod Groupings
+pub mod Orders
+pub mod Pages
+pub mod Pigeonhole
+pub mod RowCounts
+pub mod SortedLists
+pub mod Thinned
+pub mod Worths

@@ -1,0 +1,9 @@
+pub mod Efficient
+pub mod Elements
+pub mod Groupings
+pub mod Pages
+pub mod Plans
+pub mod SamePages
+pub mod Thinned
+pub mod Trips
+pub mod Worths
