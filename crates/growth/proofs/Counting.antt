@@ -133,3 +133,15 @@ module _ {V W : Type 0} {a : Meaning V} {b : Meaning W} (la : Laws a) (lb : Laws
       let r : Row V W = record { end = origin; first = a .unit; second = b .unit; roads = 0; source = Empty } in
       let one = at-most [] (r ∷ []) (start a b la lb roads origin [] r refl refl refl refl refl) n rows in
       omega arith
+
+  -- with a row that is still to come there are more efficient pairs than rows
+  pub crowd : (front rs : List (Row V W)) (r : Row V W) → Grown a b roads origin front rs → Next a b roads (length front) rs r → (xs : List (ℕ × (V × W))) × ((length rs < length xs) × Efficient-items a b places (swept places roads origin) xs)
+  crowd front rs r g next =
+      let all = rs ++ r ∷ [] in
+      (map item-of all, (omega (arith, length-map all item-of, length-push rs r), items front all (more a b la lb roads origin front rs g r next)))
+
+  -- the empty trip alone is one
+  pub crowd-one : (xs : List (ℕ × (V × W))) × ((0 < length xs) × Efficient-items a b places (swept places roads origin) xs)
+  crowd-one =
+      let r : Row V W = record { end = origin; first = a .unit; second = b .unit; roads = 0; source = Empty } in
+      (map item-of (r ∷ []), (omega arith, items [] (r ∷ []) (start a b la lb roads origin [] r refl refl refl refl refl)))

@@ -22,10 +22,10 @@ use Rattle.growth.specs.Complete.{Inside}
 use Rattle.growth.specs.Grown.{Grown}
 use Rattle.growth.specs.Growing.{Fresh, Next}
 use Rattle.growth.proofs.Bounds.{few-roads}
-use Rattle.growth.proofs.Counting.{exactly, room, some-row}
+use Rattle.growth.proofs.Counting.{exactly, room, some-row, crowd, crowd-one}
 use Rattle.growth.proofs.Wholeness.{page}
 use Rattle.sweep.specs.Frontiers.{Founded, Grew, Searched}
-use Rattle.sweep.specs.Sweeps.{plan-of, Stands-for, Accepted}
+use Rattle.sweep.specs.Sweeps.{plan-of, Accepted, Crowded}
 
 -- the counted roads of a table that serves a network name its places
 pub counted-named : (n : Network) (roads : List Road) → Serving n roads → (i : ℕ) (r : Road) → Numbered (take (n .roads) roads) i r → Within (n .places) r
@@ -79,6 +79,19 @@ module _ {V W : Type 0} (a : Meaning V) (b : Meaning W) (n : Network) (roads : L
       let front = replicate used c in
       let long = length-replicate used c in
       room la lb (n .places) (take (n .roads) roads) origin within front rows c m (grown-of front rows long grew) (subst (λ k. Next a b (take (n .roads) roads) k rows c) (sym long) next) number)
+      why
+
+  pub crowded : (rows : List (Row V W)) → (length rows ≡ 0) ⊎ (Grew a b (take (n .roads) roads) (n .places) origin used rows × ((c : Row V W) × Next a b (take (n .roads) roads) used rows c)) → Crowded a b n roads origin (length rows)
+  crowded rows why =
+      ⊎-elim
+      (λ empty.
+      let (xs, (some, all)) = crowd-one la lb (n .places) (take (n .roads) roads) origin within in
+      record { items = xs; many = omega arith; efficient = all })
+      (λ (grew, (c, next)).
+      let front = replicate used c in
+      let long = length-replicate used c in
+      let (xs, (many, all)) = crowd la lb (n .places) (take (n .roads) roads) origin within front rows c (grown-of front rows long grew) (subst (λ k. Next a b (take (n .roads) roads) k rows c) (sym long) next) in
+      record { items = xs; many = many; efficient = all })
       why
 
   -- a search over the counted roads is well founded

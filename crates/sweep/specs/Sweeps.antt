@@ -12,6 +12,7 @@ use Rattle.roads.specs.declared.road.Road.{Road}
 use Rattle.rows.specs.declared.row.Row.{Row}
 use Rattle.rows.specs.Places.{Row-at, pair-of, pairs-at}
 use Rattle.rows.specs.Trails.{Trail}
+use Rattle.trips.specs.Efficient.{Efficient-items}
 use Rattle.trips.specs.Pages.{Page, Rows}
 use Rattle.trips.specs.Plans.{Plan, swept, Drives, Visits, Distinct}
 use Rattle.trips.specs.Trips.{Use, worths}
@@ -49,11 +50,17 @@ module _ {V W : Type 0} (a : Meaning V) (b : Meaning W) where
   abbrev pub Fitting : Network → List Road → ℕ → ℕ → Type 0
   Fitting n roads used free = (used + free ≤ 65536) × Serving n roads
 
+  -- the plan has more efficient pairs, by place, than there are free rows
+  pub record Crowded (n : Network) (roads : List Road) (origin free : ℕ) : Type 0 where
+    pub items : List (ℕ × (V × W))
+    pub many : free < length items
+    pub efficient : Efficient-items a b (n .places) (plan-of n roads origin) items
+
   -- which refusal comes, the first that applies of: a foreign table, no such place, fewer free rows than the plan has
   abbrev pub Declined : Network → List Road → ℕ → ℕ → ℕ → SweepFault → Type 0
   Declined n roads used free origin ForeignTable = Fitting n roads used free → ⊥
   Declined n roads used free origin NoSuchPlace = Fitting n roads used free × (n .places ≤ origin)
-  Declined n roads used free origin RowsFull = Fitting n roads used free × (origin < n .places) × ((m : ℕ) → Rows a b (n .places) (plan-of n roads origin) m → free < m)
+  Declined n roads used free origin RowsFull = Fitting n roads used free × (origin < n .places) × Crowded n roads origin free × ((m : ℕ) → Rows a b (n .places) (plan-of n roads origin) m → free < m)
 
   -- a sweep over so many free rows answers r and leaves them as rows
   abbrev pub Swept : Network → List Road → ℕ → ℕ → ℕ → Result ℕ SweepFault → List (Row V W) → Type 0

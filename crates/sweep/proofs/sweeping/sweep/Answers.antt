@@ -8,7 +8,8 @@ use Rattle.roads.specs.Networks.{Serving}
 use Rattle.roads.specs.Tables.{Serves}
 use Rattle.growth.specs.Growing.{Fresh, Next}
 use Rattle.sweep.specs.Frontiers.{Founded, Grew, Searched}
-use Rattle.sweep.proofs.Sweeps.{accepted, overfull, founded}
+use Rattle.sweep.specs.Sweeps.{Crowded}
+use Rattle.sweep.proofs.Sweeps.{accepted, overfull, crowded, founded}
 use Rattle.sweep.proofs.sweeping.sweep.Given as given
 use Rattle.sweep.proofs.sweeping.sweep.Needs as need
 use Rattle.sweep.proofs.sweeping.sweep.Needs.{After-places-3}
@@ -58,5 +59,6 @@ returns-in-None g c =
     let why = subst (λ k. (length rs ≡ 0) ⊎ (Grew a b (take k (c .args .roads .now)) (c .args .network .now .places) (c .args .origin) (c .args .used) rs × ((x : _) × Next a b (take k (c .args .roads .now)) (c .args .used) rs x))) (cut g s) (subst (λ p. (length rs ≡ 0) ⊎ (Grew a b (take (c .roads-2 .result - 0) (c .args .roads .now)) p (c .args .origin) (c .args .used) rs × ((x : _) × Next a b (take (c .roads-2 .result - 0) (c .args .roads .now)) (c .args .used) rs x))) (c .places-3 .ensures) (c .in-None .ensures tt)) in (
       (fits g s, serving g s),
       inside g s,
+      subst (Crowded a b (c .args .network .now) (c .args .roads .now) (c .args .origin)) (c .grow .kept .rows) (crowded a b (c .args .network .now) (c .args .roads .now) (c .args .origin) (c .args .used) (serving g s) (inside g s) (c .laws-stand .ensures) (c .laws-stand-2 .ensures) rs why),
       λ m number. subst (λ k. k < m) (c .grow .kept .rows) (overfull a b (c .args .network .now) (c .args .roads .now) (c .args .origin) (c .args .used) (serving g s) (inside g s) (c .laws-stand .ensures) (c .laws-stand-2 .ensures) rs why m number),
     )
