@@ -1,4 +1,6 @@
 // The book of a planner: sheets over a network by two criteria, and the calls that read them.
+#![tactic(auto)]
+
 mod added;
 mod book;
 mod fault;

@@ -1,4 +1,6 @@
 // What the lists of a book are in the words of bicriterion path problems: plain numbers, paths and lexicographic minima.
+#![tactic(auto)]
+
 mod pages;
 mod peaks;
 mod sums;

@@ -1,4 +1,6 @@
 // Criteria by which trips are judged: what each means, the laws that it keeps, and its calls.
+#![tactic(auto)]
+
 mod column;
 mod comparison;
 mod criterion;

@@ -1,4 +1,6 @@
 // Performs a script of road files: each is read and then loaded, and two lines say what came of it.
+#![tactic(auto)]
+
 mod loading;
 mod reading;
 mod script;

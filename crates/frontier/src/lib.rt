@@ -1,4 +1,6 @@
 // Why the best uncovered extension into each place is enough to find the next row of a sweep.
+#![tactic(auto)]
+
 ghost use Rattle.frontier.specs.Sound.{StaysRenewed, ChoosesNext, LeavesNone};
 
 use criteria::{Criterion, laws_stand};

@@ -1,4 +1,6 @@
 // Why a list of rows that is grown by the best uncovered extension is complete.
+#![tactic(auto)]
+
 ghost use Rattle.growth.specs.Complete.{StartsGrown, StaysGrown, EndsComplete, LeavesRoom, HasARow, StaysBounded};
 
 use criteria::{Criterion, laws_stand};

@@ -1,4 +1,6 @@
 // Paths over roads and the classical problems with two objectives, in plain numbers.
+#![tactic(auto)]
+
 ghost use Rattle.paths.specs.Lexicographic.{UniqueLexmin};
 ghost use Rattle.paths.specs.Sets.{MinimalSetsAgree};
 

@@ -1,4 +1,6 @@
 // The record of a road file: what the program writes for it.
+#![tactic(auto)]
+
 mod laws;
 mod record;
 

@@ -1,4 +1,6 @@
 // What the program prints: one line, and the record of a road file.
+#![tactic(auto)]
+
 mod line;
 mod record;
 

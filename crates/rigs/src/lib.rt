@@ -1,4 +1,6 @@
 // The classes of rigs, by gross mass, and which of them a limit bears.
+#![tactic(auto)]
+
 ghost use Rattle.std.specs.Prelude.{ℕ, ◌^◌, ◌<◌, ◌≤◌, length, slice_index};
 ghost use Rattle.criteria.specs.declared.limit.LimitValue.TheVariants.{Mark};
 ghost use Rattle.rigs.specs.Rigs.{masses, StrictlyRising, Chosen};

@@ -1,4 +1,6 @@
 // Road files: a reader that hands out the records of a file one by one, and a loading that fills and closes a draft.
+#![tactic(auto)]
+
 mod bytes;
 mod fault;
 mod laws;

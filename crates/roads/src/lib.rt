@@ -1,4 +1,6 @@
 // The network of a mill: places, roads with four marks, the draft that takes them and the calls that alter a road.
+#![tactic(auto)]
+
 mod draft;
 mod fault;
 mod network;

@@ -1,4 +1,6 @@
 // The program: a road file from standard input to its record on standard output.
+#![tactic(auto)]
+
 ghost use Rattle.std.specs.Prelude.{◌≤◌, length, IfOk};
 
 use report::write_record;

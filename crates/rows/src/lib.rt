@@ -1,4 +1,6 @@
 // Rows and sheets: what a row holds, where it comes from, which tables of rows are sound, and how a table is read.
+#![tactic(auto)]
+
 mod reading;
 mod row;
 mod sheet;

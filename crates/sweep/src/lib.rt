@@ -1,4 +1,6 @@
 // The frontier of a sweep: the best uncovered extension into each place.
+#![tactic(auto)]
+
 mod compare;
 mod frontier;
 mod sweeping;

@@ -1,4 +1,6 @@
 // Trips, the plans of sheets and their pages: definitions, and what is true of them.
+#![tactic(auto)]
+
 ghost use Rattle.trips.specs.Efficient.{PagesAreEfficient, UniqueRows, ItemsTakeRows};
 ghost use Rattle.trips.specs.Groupings.{RegroupedTrips, RegroupedPage};
 ghost use Rattle.trips.specs.SamePages.{SamePage, UniquePage};

@@ -1,4 +1,6 @@
 // A yard of four places and seven roads: what stands on its pages, and calls that build, sweep and read it.
+#![tactic(auto)]
+
 mod building;
 mod calls;
 mod table;
