@@ -3,7 +3,7 @@ use Rattle.frontier.proofs.frontier_is_sound.Goals as goal
 
 pub returns : goal.returns
 returns g c = record {
-  renewed = stays_renewed c.laws-stand.ensures c.laws-stand-2.ensures;
-  next = chooses_next c.laws-stand.ensures c.laws-stand-2.ensures;
-  none = leaves_none c.laws-stand.ensures c.laws-stand-2.ensures;
+  renewed = stays_renewed c.laws_stand.ensures c.laws_stand-2.ensures;
+  next = chooses_next c.laws_stand.ensures c.laws_stand-2.ensures;
+  none = leaves_none c.laws_stand.ensures c.laws_stand-2.ensures;
 }

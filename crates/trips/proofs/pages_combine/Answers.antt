@@ -3,6 +3,6 @@ use Rattle.trips.proofs.pages_combine.Goals as goal
 
 pub returns : goal.returns
 returns g c = record {
-  pool = pool_page c.laws-stand.ensures c.laws-stand-2.ensures;
-  series = series_page c.laws-stand.ensures c.laws-stand-2.ensures;
+  pool = pool_page c.laws_stand.ensures c.laws_stand-2.ensures;
+  series = series_page c.laws_stand.ensures c.laws_stand-2.ensures;
 }

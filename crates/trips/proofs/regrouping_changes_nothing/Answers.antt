@@ -4,5 +4,5 @@ use Rattle.trips.proofs.regrouping_changes_nothing.Goals as goal
 pub returns : goal.returns
 returns g c = record {
   trips = regrouped_trips;
-  pages = regrouped_page c.laws-stand.ensures c.laws-stand-2.ensures;
+  pages = regrouped_page c.laws_stand.ensures c.laws_stand-2.ensures;
 }

@@ -4,7 +4,7 @@ use Rattle.trips.proofs.rows_are_counted.Goals as goal
 
 pub returns : goal.returns
 returns g c = record {
-  pages = pages_are_efficient c.laws-stand.ensures c.laws-stand-2.ensures;
-  unique = unique_rows c.laws-stand.ensures c.laws-stand-2.ensures;
-  items = items_take_rows c.laws-stand.ensures c.laws-stand-2.ensures;
+  pages = pages_are_efficient c.laws_stand.ensures c.laws_stand-2.ensures;
+  unique = unique_rows c.laws_stand.ensures c.laws_stand-2.ensures;
+  items = items_take_rows c.laws_stand.ensures c.laws_stand-2.ensures;
 }

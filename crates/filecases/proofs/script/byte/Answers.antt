@@ -2,12 +2,12 @@ use Rattle.std.proofs.lemmas.Result.{err_from_is_err_and}
 use Rattle.filecases.proofs.script.byte.Goals as goal
 
 -- no byte has a letter for a digit that is none
-pub returns-in-err-x : goal.returns-in-err-x
-returns-in-err-x c =
-    let p = err_from_is_err_and c.from-residual.result c.from-residual.ensures.1 in
-    rw p.1 (λ b d. c.in-err-x.ensures d.0 d.2)
+pub returns-in_err-x : goal.returns-in_err-x
+returns-in_err-x c =
+    let p = err_from_is_err_and c.from_residual.result c.from_residual.ensures.1 in
+    rw p.1 (λ b d. c.in_err-x.ensures d.0 d.2)
 
-pub returns-in-err-y : goal.returns-in-err-y
-returns-in-err-y c =
-    let p = err_from_is_err_and c.from-residual-in-err-y.result c.from-residual-in-err-y.ensures.1 in
-    rw p.1 (λ b d. c.in-err-y.ensures d.1 d.3)
+pub returns-in_err-y : goal.returns-in_err-y
+returns-in_err-y c =
+    let p = err_from_is_err_and c.from_residual-in_err-y.result c.from_residual-in_err-y.ensures.1 in
+    rw p.1 (λ b d. c.in_err-y.ensures d.1 d.3)

@@ -5,4 +5,4 @@ use Rattle.printout.specs.Record.{Written}
 use Rattle.printout.proofs.record.add_fault.Goals as goal
 
 pub returns : goal.returns
-returns c = subst (λ m. Written (text (line.Refused m c.args.refusal.now.offset)) c.add-line.result c.add-line.new.table) c.number.ensures (c.add-line.ensures.written [] c.requires)
+returns c = subst (λ m. Written (text (line.Refused m c.args.refusal.now.offset)) c.add_line.result c.add_line.new.table) c.number.ensures (c.add_line.ensures.written [] c.requires)

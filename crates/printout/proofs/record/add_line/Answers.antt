@@ -6,10 +6,10 @@ use Rattle.printout.proofs.record.add_line.Goals as goal
 
 pub returns : goal.returns
 returns c =
-    let size = c.write-line-size.result in
-    let copied : c.copy-from-slice.new.self ≡ take size c.write-line-size.new.table = search rules in
-    let line = take_at (text c.args.line) _ size (sym c.write-line-size.ensures.length) in
+    let size = c.write_line-size.result in
+    let copied : c.copy_from_slice.new.self ≡ take size c.write_line-size.new.table = search rules in
+    let line = take_at (text c.args.line) _ size (sym c.write_line-size.ensures.length) in
     record {
-      near = omega (arith, c.write-line-size.ensures.length, c.write-line-size.ensures.fits);
-      written = λ out w. written_more out (text c.args.line) c.args.table.now c.copy-from-slice.new.self c.args.at size _ w (copied ∙ ap (take size) c.write-line-size.ensures.bytes ∙ line) c.write-line-size.ensures.length (omega arith) (omega (arith, c.requires, c.write-line-size.ensures.length, c.write-line-size.ensures.fits));
+      near = omega (arith, c.write_line-size.ensures.length, c.write_line-size.ensures.fits);
+      written = λ out w. written_more out (text c.args.line) c.args.table.now c.copy_from_slice.new.self c.args.at size _ w (copied ∙ ap (take size) c.write_line-size.ensures.bytes ∙ line) c.write_line-size.ensures.length (omega arith) (omega (arith, c.requires, c.write_line-size.ensures.length, c.write_line-size.ensures.fits));
     }

@@ -12,11 +12,11 @@ use Rattle.printout.proofs.record.add_place.Goals.{In-Ok}
 counted : (c : In-Ok) → c.in-Ok.count ≡ length (pairs_listed c.args.book.now c.args.rows.now c.args.place)
 counted c = c.in-Ok.ensures.1 ∙ sym (length-map (rows_listed c.args.book.now c.args.rows.now c.args.place) pair_of)
 
-pub add-rows-requires : goal.add-rows-requires
-add-rows-requires c = record {
+pub add_rows-requires : goal.add_rows-requires
+add_rows-requires c = record {
   there = c.requires.there;
   count = c.in-Ok.ensures.1;
-  room = omega (arith, c.requires.room, counted (goal.at.add-rows-requires c).In-Ok, c.add-line-end.ensures.near);
+  room = omega (arith, c.requires.room, counted (goal.at.add_rows-requires c).In-Ok, c.add_line-end.ensures.near);
 }
 
 pub returns : goal.returns
@@ -24,8 +24,8 @@ returns c =
     let pairs = pairs_listed c.args.book.now c.args.rows.now c.args.place in
     let n = counted (goal.at.returns c).In-Ok in
     record {
-      near = omega (arith, n, c.add-line-end.ensures.near, c.add-rows.ensures.near);
-      written = λ out w. subst (λ l. Written l c.add-rows.result c.add-rows.new.table)
+      near = omega (arith, n, c.add_line-end.ensures.near, c.add_rows.ensures.near);
+      written = λ out w. subst (λ l. Written l c.add_rows.result c.add_rows.new.table)
           (append_assoc out (text (line.Place c.args.place c.in-Ok.count)) (rows_text pairs) ∙ ap (λ m. out ++ (text (line.Place c.args.place m) ++ rows_text pairs)) n)
-          (c.add-rows.ensures.written (out ++ text (line.Place c.args.place c.in-Ok.count)) (c.add-line-end.ensures.written out w));
+          (c.add_rows.ensures.written (out ++ text (line.Place c.args.place c.in-Ok.count)) (c.add_line-end.ensures.written out w));
     }

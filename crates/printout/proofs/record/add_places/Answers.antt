@@ -7,8 +7,8 @@ use Rattle.printout.proofs.record.add_places.Goals as goal
 pub loop-place-init : goal.loop-place-init
 loop-place-init c = (omega arith, c.requires.clear)
 
-pub add-place-end-requires : goal.add-place-end-requires
-add-place-end-requires c =
+pub add_place-end-requires : goal.add_place-end-requires
+add_place-end-requires c =
     let pages = pairs_listed c.args.book.now c.args.rows.now in
     record {
       there = c.requires.there c.loop-place.place (omega arith);
@@ -19,8 +19,8 @@ pub loop-place-preserved : goal.loop-place-preserved
 loop-place-preserved c =
     let pages = pairs_listed c.args.book.now c.args.rows.now in
     let p = c.loop-place.place in (
-      omega (arith, c.loop-place.invariant.0, c.add-place-end.ensures.near, rows_more pages p),
-      place_written pages p c.add-place-end.result c.add-place-end.new.table (c.add-place-end.ensures.written (places_text pages p) c.loop-place.invariant.1),
+      omega (arith, c.loop-place.invariant.0, c.add_place-end.ensures.near, rows_more pages p),
+      place_written pages p c.add_place-end.result c.add_place-end.new.table (c.add_place-end.ensures.written (places_text pages p) c.loop-place.invariant.1),
     )
 
 pub returns : goal.returns

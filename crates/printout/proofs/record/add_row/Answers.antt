@@ -10,9 +10,9 @@ returns c =
     let row = c.in-Ok.row.now in
     let (readable, (low, is)) = c.in-Ok.ensures in
     record {
-      near = c.add-line.ensures.near;
+      near = c.add_line.ensures.near;
       written = λ out x (_, is_x) w.
           let same : row ≡ x = sym (is x) ∙ is_x x in
-          let limited = subst (λ l. Written (out ++ text (line.Row row.first.total l)) c.add-line.result c.add-line.new.table) c.limit.ensures (c.add-line.ensures.written out w) in
-          subst (λ z. Written (out ++ row_text (pair_of z)) c.add-line.result c.add-line.new.table) same limited;
+          let limited = subst (λ l. Written (out ++ text (line.Row row.first.total l)) c.add_line.result c.add_line.new.table) c.limit.ensures (c.add_line.ensures.written out w) in
+          subst (λ z. Written (out ++ row_text (pair_of z)) c.add_line.result c.add_line.new.table) same limited;
     }

@@ -13,8 +13,8 @@ loop-index-preserved c =
     let listed = rows_listed c.args.book.now c.args.rows.now c.args.place in
     let i = c.loop-index.index in
     let (x, at) = row_exists listed i (omega (arith, c.requires.count)) in (
-      omega (arith, c.loop-index.invariant.0, c.add-row-end.ensures.near),
-      λ out w. row_written listed i x out c.add-row-end.result c.add-row-end.new.table at (c.add-row-end.ensures.written (out ++ rows_text (take i (pairs_listed c.args.book.now c.args.rows.now c.args.place))) x at (c.loop-index.invariant.1 out w)),
+      omega (arith, c.loop-index.invariant.0, c.add_row-end.ensures.near),
+      λ out w. row_written listed i x out c.add_row-end.result c.add_row-end.new.table at (c.add_row-end.ensures.written (out ++ rows_text (take i (pairs_listed c.args.book.now c.args.rows.now c.args.place))) x at (c.loop-index.invariant.1 out w)),
     )
 
 pub returns : goal.returns

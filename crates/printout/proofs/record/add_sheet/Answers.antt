@@ -26,12 +26,12 @@ new c = record {
 
 -- a plan has one number of rows by the program's criteria
 unique : (c : After-open-book) → UniqueRows by_time by_load
-unique c = subst (λ j. UniqueRows by_time (limit_meaning j)) c.in-Ok-new.ensures.1 (subst (λ i. UniqueRows (sum_meaning i) (limit_meaning c.in-Ok-new.load.column.index)) c.in-Ok.ensures.1 c.rows-are-counted.ensures.unique)
+unique c = subst (λ j. UniqueRows by_time (limit_meaning j)) c.in-Ok-new.ensures.1 (subst (λ i. UniqueRows (sum_meaning i) (limit_meaning c.in-Ok-new.load.column.index)) c.in-Ok.ensures.1 c.rows_are_counted.ensures.unique)
 
-pub add-places-requires : goal.add-places-requires
-add-places-requires c =
+pub add_places-requires : goal.add_places-requires
+add_places-requires c =
     let n = c.args.network.now in
-    let o = (goal.at.add-places-requires c).After-open-book in
+    let o = (goal.at.add_places-requires c).After-open-book in
     let k = c.open-book.result in
     let rows = replicate 1024 c.unused-rows.result in
     let k' = c.sweep.new.self in
@@ -53,7 +53,7 @@ returns-in-Ok-sweep c =
     record {
       out = places_text (pairs_listed k' rows') n.places;
       answered = inl (listed n c.args.roads.now c.open-book.result (replicate 1024 c.unused-rows.result) (new o) k' rows' c.in-Ok-sweep.field-0 c.in-Ok-sweep.ensures (unique o));
-      written = subst (λ m. Written (places_text (pairs_listed k' rows') m) c.add-places.result c.add-places.new.table) c.places.ensures c.add-places.ensures;
+      written = subst (λ m. Written (places_text (pairs_listed k' rows') m) c.add_places.result c.add_places.new.table) c.places.ensures c.add_places.ensures;
     }
 
 pub returns-in-Err-sweep : goal.returns-in-Err-sweep
@@ -64,5 +64,5 @@ returns-in-Err-sweep c =
     record {
       out = text (line.Refused (planner_number f) 0);
       answered = inr (crowded_out n c.args.roads.now c.open-book.result (replicate 1024 c.unused-rows.result) (new o) c.requires.serves f c.in-Err-sweep.ensures.0);
-      written = subst (λ m. Written (text (line.Refused m 0)) c.add-refusal-in-Err-sweep.result c.add-refusal-in-Err-sweep.new.table) c.number-in-Err-sweep.ensures c.add-refusal-in-Err-sweep.ensures;
+      written = subst (λ m. Written (text (line.Refused m 0)) c.add_refusal-in-Err-sweep.result c.add_refusal-in-Err-sweep.new.table) c.number-in-Err-sweep.ensures c.add_refusal-in-Err-sweep.ensures;
     }

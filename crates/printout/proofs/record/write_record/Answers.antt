@@ -6,29 +6,29 @@ use Rattle.printout.specs.Record.{blank}
 use Rattle.printout.proofs.Loaded.{serving}
 use Rattle.printout.proofs.record.write_record.Goals as goal
 
-pub add-sheet-requires : goal.add-sheet-requires
-add-sheet-requires c = record { serves = serving c.args.file.now (replicate 1024 blank) c.in-Ok.network c.load.new.table c.in-Ok.ensures; clear = c.clear.ensures }
+pub add_sheet-requires : goal.add_sheet-requires
+add_sheet-requires c = record { serves = serving c.args.file.now (replicate 1024 blank) c.in-Ok.network c.load.new.table c.in-Ok.ensures; clear = c.clear.ensures }
 
 pub returns-in-Ok : goal.returns-in-Ok
 returns-in-Ok c = record {
-  out = c.add-sheet.ensures.out;
+  out = c.add_sheet.ensures.out;
   says = inr (
-    c.if-is-too-long.ensures,
+    c.if-is_too_long.ensures,
     record {
       after = c.load.new.table;
       answer = Ok c.in-Ok.network;
       loaded = c.in-Ok.ensures;
-      answered = c.add-sheet.ensures.answered;
+      answered = c.add_sheet.ensures.answered;
     },
   );
-  written = c.add-sheet.ensures.written;
+  written = c.add_sheet.ensures.written;
 }
 
 pub returns-in-Err : goal.returns-in-Err
 returns-in-Err c = record {
   out = text (line.Refused (file_number c.in-Err.refusal.fault) c.in-Err.refusal.offset);
   says = inr (
-    c.if-is-too-long.ensures,
+    c.if-is_too_long.ensures,
     record {
       after = c.load.new.table;
       answer = Err c.in-Err.refusal;
@@ -36,5 +36,5 @@ returns-in-Err c = record {
       answered = refl;
     },
   );
-  written = c.add-fault.ensures;
+  written = c.add_fault.ensures;
 }

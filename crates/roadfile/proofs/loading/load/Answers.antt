@@ -3,17 +3,17 @@ use Rattle.std.proofs.lemmas.Result.{err_from_is_err_and}
 use Rattle.roadfile.specs.Reading.{Handed, Ended, left_of}
 use Rattle.roadfile.proofs.Progress.{shrinks, start, more, refused, extra, whole}
 use Rattle.roadfile.proofs.loading.load.Goals as goal
-use Rattle.roadfile.proofs.loading.load.Goals.{In-Some, In-default}
+use Rattle.roadfile.proofs.loading.load.Goals.{In-Some, In_default}
 
 -- what the reader answered where it handed out a record, and where it handed out none
 some : (c : In-Some) → Handed c.loop-item.reader (Ok (Some c.in-Some.item)) c.next.new.self
-some c = subst (λ o. Handed c.loop-item.reader (Ok o) c.next.new.self) c.in-Some.is c.in-ok-item.ensures
+some c = subst (λ o. Handed c.loop-item.reader (Ok o) c.next.new.self) c.in-Some.is c.in_ok-item.ensures
 
-none : (c : In-default) → Handed c.loop-item.reader (Ok None) c.next.new.self
-none c = subst (λ o. Handed c.loop-item.reader (Ok o) c.next.new.self) c.in-default.is c.in-ok-item.ensures
+none : (c : In_default) → Handed c.loop-item.reader (Ok None) c.next.new.self
+none c = subst (λ o. Handed c.loop-item.reader (Ok o) c.next.new.self) c.in_default.is c.in_ok-item.ensures
 
 pub loop-item-init : goal.loop-item-init
-loop-item-init c = start c.args.file.now c.args.table.now _ _ c.in-ok-reader.ensures c.new-draft.ensures.places c.new-draft.ensures.roads
+loop-item-init c = start c.args.file.now c.args.table.now _ _ c.in_ok-reader.ensures c.new-draft.ensures.places c.new-draft.ensures.roads
 
 pub returns-in-Err : goal.returns-in-Err
 returns-in-Err c =
@@ -24,15 +24,15 @@ loop-item-smaller c = shrinks c.loop-item.reader c.next.new.self _ (some (goal.a
 
 pub loop-item-preserved : goal.loop-item-preserved
 loop-item-preserved c =
-    more _ _ _ _ _ _ c.loop-item.invariant c.in-Some.item c.next.new.self c.add.new.draft c.add.new.table (some (goal.at.loop-item-preserved c).In-Some) c.in-default-add.ensures
+    more _ _ _ _ _ _ c.loop-item.invariant c.in-Some.item c.next.new.self c.add.new.draft c.add.new.table (some (goal.at.loop-item-preserved c).In-Some) c.in_default-add.ensures
 
-pub returns-in-err-finish : goal.returns-in-err-finish
-returns-in-err-finish c =
-    let p = err_from_is_err_and c.from-residual-in-err-finish.result c.from-residual-in-err-finish.ensures.1 in
-    let (off, same) = none (goal.at.returns-in-err-finish c).In-default in
-    rw (p.1, p.2) (inr (extra _ _ _ _ _ _ c.loop-item.invariant c.in-err-finish.field-0.0 off (subst (λ s. Ended s (Err c.in-err-finish.field-0.0)) same c.in-err-finish.ensures)))
+pub returns-in_err-finish : goal.returns-in_err-finish
+returns-in_err-finish c =
+    let p = err_from_is_err_and c.from_residual-in_err-finish.result c.from_residual-in_err-finish.ensures.1 in
+    let (off, same) = none (goal.at.returns-in_err-finish c).In_default in
+    rw (p.1, p.2) (inr (extra _ _ _ _ _ _ c.loop-item.invariant c.in_err-finish.field-0.0 off (subst (λ s. Ended s (Err c.in_err-finish.field-0.0)) same c.in_err-finish.ensures)))
 
 pub returns-in-Ok : goal.returns-in-Ok
 returns-in-Ok c =
-    let (off, same) = none (goal.at.returns-in-Ok c).In-default in
-    whole _ _ _ _ _ _ c.loop-item.invariant c.in-Ok.network c.close.new.table off (subst (λ s. left_of s ≡ []) same c.in-ok-finish.ensures) c.in-Ok.ensures
+    let (off, same) = none (goal.at.returns-in-Ok c).In_default in
+    whole _ _ _ _ _ _ c.loop-item.invariant c.in-Ok.network c.close.new.table off (subst (λ s. left_of s ≡ []) same c.in_ok-finish.ensures) c.in-Ok.ensures

@@ -7,39 +7,39 @@ use Rattle.sweep.proofs.frontier.advance.Given as given
 use Rattle.sweep.proofs.frontier.advance.Goals as goal
 use Rattle.sweep.proofs.frontier.advance.Goals.{After-link}
 
-pub returns-in-default : goal.returns-in-default
-returns-in-default g c = λ origin s. (refl, step_none (g.A.Criterion.meaning c.args.a.now) (g.B.Criterion.meaning c.args.b.now) c.args.roads.now c.args.places origin c.args.base c.args.rows.now c.args.n c.args.frontier.now.found c.args.frontier.now.best c.args.frontier.now.last c.args.frontier.now.prev s c.requires.within c.in-default.ensures)
+pub returns-in_default : goal.returns-in_default
+returns-in_default g c = λ origin s. (refl, step_none (g.A.Criterion.meaning c.args.a.now) (g.B.Criterion.meaning c.args.b.now) c.args.roads.now c.args.places origin c.args.base c.args.rows.now c.args.n c.args.frontier.now.found c.args.frontier.now.best c.args.frontier.now.last c.args.frontier.now.prev s c.requires.within c.in_default.ensures)
 
-pub returns-then-is-full : goal.returns-then-is-full
-returns-then-is-full g c = λ origin s.
+pub returns-then-is_full : goal.returns-then-is_full
+returns-then-is_full g c = λ origin s.
     let best = c.args.frontier.now.best in
     let chosen = c.in-Some.ensures in
     let (x, at) = row_exists best c.in-Some.place (omega (arith, chosen.0, s.same_places, s.standing.small, s.sized.rows)) in
-    (c.if-is-full.ensures, (refl, (x, step_next (g.A.Criterion.meaning c.args.a.now) (g.B.Criterion.meaning c.args.b.now) c.args.roads.now c.args.places origin c.args.base c.args.rows.now c.args.n c.args.frontier.now.found best c.args.frontier.now.last c.args.frontier.now.prev s c.requires.within c.in-Some.place x chosen (sym (at.1 x)))))
+    (c.if-is_full.ensures, (refl, (x, step_next (g.A.Criterion.meaning c.args.a.now) (g.B.Criterion.meaning c.args.b.now) c.args.roads.now c.args.places origin c.args.base c.args.rows.now c.args.n c.args.frontier.now.found best c.args.frontier.now.last c.args.frontier.now.prev s c.requires.within c.in-Some.place x chosen (sym (at.1 x)))))
 
 -- the step, once the row is written and linked
-forward : (g : given.Over) (c : After-link g) (origin : ℕ) → Searching (g.A.Criterion.meaning c.args.a.now) (g.B.Criterion.meaning c.args.b.now) c.args.roads.now c.args.places origin c.args.base (take c.args.n c.args.rows.now) c.args.frontier.now.found c.args.frontier.now.best c.args.frontier.now.last c.args.frontier.now.prev → Forward (g.A.Criterion.meaning c.args.a.now) (g.B.Criterion.meaning c.args.b.now) c.args.roads.now c.args.places origin c.args.base (take (c.args.n + 1) (set c.args.rows.now c.args.n c.held-at.result)) c.args.n c.in-Some.place c.link.new.frontier.found c.link.new.frontier.best c.link.new.frontier.last c.link.new.frontier.prev
+forward : (g : given.Over) (c : After-link g) (origin : ℕ) → Searching (g.A.Criterion.meaning c.args.a.now) (g.B.Criterion.meaning c.args.b.now) c.args.roads.now c.args.places origin c.args.base (take c.args.n c.args.rows.now) c.args.frontier.now.found c.args.frontier.now.best c.args.frontier.now.last c.args.frontier.now.prev → Forward (g.A.Criterion.meaning c.args.a.now) (g.B.Criterion.meaning c.args.b.now) c.args.roads.now c.args.places origin c.args.base (take (c.args.n + 1) (set c.args.rows.now c.args.n c.held_at.result)) c.args.n c.in-Some.place c.link.new.frontier.found c.link.new.frontier.best c.link.new.frontier.last c.link.new.frontier.prev
 forward g c origin s =
     let a = g.A.Criterion.meaning c.args.a.now in
     let b = g.B.Criterion.meaning c.args.b.now in
     let after = c.link.ensures in
     forward_same a b c.args.roads.now c.args.places origin c.args.base refl after.found after.best after.last after.prev
-    (step_forward a b c.args.roads.now c.args.places origin c.args.base c.args.rows.now c.args.n c.args.frontier.now.found c.args.frontier.now.best c.args.frontier.now.last c.args.frontier.now.prev s c.requires.within c.in-Some.place c.held-at.result c.in-Some.ensures c.held-at.ensures c.if-is-full.ensures c.requires.room)
+    (step_forward a b c.args.roads.now c.args.places origin c.args.base c.args.rows.now c.args.n c.args.frontier.now.found c.args.frontier.now.best c.args.frontier.now.last c.args.frontier.now.prev s c.requires.within c.in-Some.place c.held_at.result c.in-Some.ensures c.held_at.ensures c.if-is_full.ensures c.requires.room)
 
 pub renew-requires : goal.renew-requires
 renew-requires g c =
     let l = (goal.at.renew-requires g c).After-link in
     let (origin, s) = c.requires.stands in
     let f = forward g l origin s in
-    (search rules, (omega (arith, length-set c.args.rows.now c.args.n c.held-at.result, c.if-is-full.ensures), f.renewable))
+    (search rules, (omega (arith, length-set c.args.rows.now c.args.n c.held_at.result, c.if-is_full.ensures), f.renewable))
 
 pub returns : goal.returns
 returns g c = λ origin s.
     let after = c.renew.ensures in
     let linked = c.link.ensures in (
-      c.if-is-full.ensures,
+      c.if-is_full.ensures,
       (
-        take-set c.args.rows.now c.args.n c.held-at.result,
+        take-set c.args.rows.now c.args.n c.held_at.result,
         stands_again (g.A.Criterion.meaning c.args.a.now) (g.B.Criterion.meaning c.args.b.now) c.args.roads.now c.args.places origin c.args.base (forward g (goal.at.returns g c).After-link origin s) after.last after.prev
             (ap length linked.last ∙ length-set c.args.frontier.now.last c.in-Some.place (Some c.args.n) ∙ s.lasts)
             (ap length linked.prev ∙ length-set c.args.frontier.now.prev c.args.n (get_or c.args.frontier.now.last c.in-Some.place None) ∙ s.prevs)

@@ -19,8 +19,8 @@ loop-j-init g c =
       same_prev = refl;
     }
 
-pub see-road-requires : goal.see-road-requires
-see-road-requires g c =
+pub see_road-requires : goal.see_road-requires
+see_road-requires g c =
     let r = c.requires.1 in
     let w = c.loop-j.invariant in
     let after = c.forget.ensures in
@@ -41,10 +41,10 @@ see-road-requires g c =
 pub loop-j-preserved : goal.loop-j-preserved
 loop-j-preserved g c =
     let w = c.loop-j.invariant in
-    let after = c.see-road.ensures in
+    let after = c.see_road.ensures in
     let cut : c.args.newest + 1 - 0 ≡ c.args.newest + 1 = omega arith in
     record {
-      renewed = subst (λ k. Renewed (g.A.Criterion.meaning c.args.a.now) (g.B.Criterion.meaning c.args.b.now) c.args.roads.now c.args.base (take k c.args.table.now) c.args.place c.args.newest c.see-road.new.frontier.found c.see-road.new.frontier.best (c.loop-j.j + 1)) cut after.renewed;
+      renewed = subst (λ k. Renewed (g.A.Criterion.meaning c.args.a.now) (g.B.Criterion.meaning c.args.b.now) c.args.roads.now c.args.base (take k c.args.table.now) c.args.place c.args.newest c.see_road.new.frontier.found c.see_road.new.frontier.best (c.loop-j.j + 1)) cut after.renewed;
       sized = after.sized;
       same_last = after.last ∙ w.same_last;
       same_prev = after.prev ∙ w.same_prev;

@@ -28,10 +28,10 @@ returns-then-not-drivable g c =
       renewed = renewed_shut (g.A.Criterion.meaning c.args.a.now) (g.B.Criterion.meaning c.args.b.now) st.first_laws st.second_laws c.args.roads.now c.args.base c.args.rows.now c.args.j c.args.place c.args.newest (road g s) (is_road g s) c.requires.added c.args.frontier.now.found c.args.frontier.now.best c.requires.renewed (sym c.if-not-drivable.ensures);
     }
 
-pub try-rows-requires : goal.try-rows-requires
+pub try_rows-requires : goal.try_rows-requires
 unfolding road
-try-rows-requires g c =
-    let s = (goal.at.try-rows-requires g c).Start in
+try_rows-requires g c =
+    let s = (goal.at.try_rows-requires g c).Start in
     let st = c.requires.standing in
     let a = g.A.Criterion.meaning c.args.a.now in
     let b = g.B.Criterion.meaning c.args.b.now in
@@ -42,12 +42,12 @@ unfolding road
 returns-then-road-place g c =
     let s = (goal.at.returns-then-road-place g c).Start in
     let st = c.requires.standing in
-    let after = c.try-rows.ensures in
+    let after = c.try_rows.ensures in
     record {
       last = after.last;
       prev = after.prev;
       sized = record { flags = after.kept.flags ∙ c.requires.sized.flags; rows = after.kept.rows ∙ c.requires.sized.rows };
-      renewed = renewed_entered (g.A.Criterion.meaning c.args.a.now) (g.B.Criterion.meaning c.args.b.now) st.first_laws st.second_laws c.args.roads.now c.args.base c.args.rows.now c.args.j c.args.place c.args.newest (road g s) (is_road g s) c.requires.added c.args.frontier.now.found c.args.frontier.now.best c.requires.renewed c.try-rows.new.frontier.found c.try-rows.new.frontier.best c.if-road-place.true after.kept after.held;
+      renewed = renewed_entered (g.A.Criterion.meaning c.args.a.now) (g.B.Criterion.meaning c.args.b.now) st.first_laws st.second_laws c.args.roads.now c.args.base c.args.rows.now c.args.j c.args.place c.args.newest (road g s) (is_road g s) c.requires.added c.args.frontier.now.found c.args.frontier.now.best c.requires.renewed c.try_rows.new.frontier.found c.try_rows.new.frontier.best c.if-road-place.true after.kept after.held;
     }
 
 pub returns-then-road-place-2 : goal.returns-then-road-place-2
@@ -62,10 +62,10 @@ returns-then-road-place-2 g c =
       renewed = renewed_apart (g.A.Criterion.meaning c.args.a.now) (g.B.Criterion.meaning c.args.b.now) st.first_laws st.second_laws c.args.roads.now c.args.base c.args.rows.now c.args.j c.args.place c.args.newest (road g s) (is_road g s) c.requires.added c.args.frontier.now.found c.args.frontier.now.best c.requires.renewed c.if-road-place.false c.if-road-place-2.true;
     }
 
-pub try-row-requires : goal.try-row-requires
+pub try_row-requires : goal.try_row-requires
 unfolding road
-try-row-requires g c =
-    let s = (goal.at.try-row-requires g c).Start in
+try_row-requires g c =
+    let s = (goal.at.try_row-requires g c).Start in
     (search rules, record { standing = c.requires.standing; linked = c.requires.linked; follows = newest_follows (g.A.Criterion.meaning c.args.a.now) (g.B.Criterion.meaning c.args.b.now) c.args.roads.now c.args.rows.now c.args.j c.args.place c.args.newest (road g s) (is_road g s) c.requires.added (sym c.if-not-drivable.ensures) c.if-road-place-2.false })
 
 pub returns : goal.returns
@@ -73,13 +73,13 @@ unfolding road
 returns g c =
     let s = (goal.at.returns g c).Start in
     let st = c.requires.standing in
-    let after = c.try-row.ensures in
+    let after = c.try_row.ensures in
     let a = g.A.Criterion.meaning c.args.a.now in
     let b = g.B.Criterion.meaning c.args.b.now in
-    let long = weighed_lengths a b c.args.rows.now _ _ c.args.frontier.now.found c.args.frontier.now.best c.try-row.new.frontier.found c.try-row.new.frontier.best after.tried.weighed in
+    let long = weighed_lengths a b c.args.rows.now _ _ c.args.frontier.now.found c.args.frontier.now.best c.try_row.new.frontier.found c.try_row.new.frontier.best after.tried.weighed in
     record {
       last = after.last;
       prev = after.prev;
       sized = record { flags = long.0 ∙ c.requires.sized.flags; rows = long.1 ∙ c.requires.sized.rows };
-      renewed = renewed_left a b st.first_laws st.second_laws c.args.roads.now c.args.base c.args.rows.now c.args.j c.args.place c.args.newest (road g s) (is_road g s) c.requires.added c.args.frontier.now.found c.args.frontier.now.best c.requires.renewed c.try-row.new.frontier.found c.try-row.new.frontier.best st c.args.frontier.now.last c.args.frontier.now.prev c.requires.linked c.requires.sized c.if-road-place-2.false c.if-road-place.false after.tried;
+      renewed = renewed_left a b st.first_laws st.second_laws c.args.roads.now c.args.base c.args.rows.now c.args.j c.args.place c.args.newest (road g s) (is_road g s) c.requires.added c.args.frontier.now.found c.args.frontier.now.best c.requires.renewed c.try_row.new.frontier.found c.try_row.new.frontier.best st c.args.frontier.now.last c.args.frontier.now.prev c.requires.linked c.requires.sized c.if-road-place-2.false c.if-road-place.false after.tried;
     }

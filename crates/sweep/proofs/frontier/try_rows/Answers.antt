@@ -24,8 +24,8 @@ loop-at-init g c =
     let a = g.A.Criterion.meaning c.args.a.now in
     let b = g.B.Criterion.meaning c.args.b.now in
     let st = c.requires.standing in
-    walk_start a b st.first_laws st.second_laws c.args.roads.now c.args.base c.args.rows.now c.args.j c.args.place (road g s) (is_road g s) (c.requires.enters.1 (road g s) (is_road g s)).1 c.last-at-at.result c.args.frontier.now.last c.args.frontier.now.prev c.args.frontier.now.found c.args.frontier.now.best
-    (subst (λ o. Latest c.args.rows.now (length c.args.rows.now) (road g s).start o) (sym c.last-at-at.ensures) (c.requires.linked.latest (road g s).start (road_low a b c.args.roads.now c.args.base c.args.rows.now c.args.j (road g s) st (is_road g s)).0))
+    walk_start a b st.first_laws st.second_laws c.args.roads.now c.args.base c.args.rows.now c.args.j c.args.place (road g s) (is_road g s) (c.requires.enters.1 (road g s) (is_road g s)).1 c.last_at-at.result c.args.frontier.now.last c.args.frontier.now.prev c.args.frontier.now.found c.args.frontier.now.best
+    (subst (λ o. Latest c.args.rows.now (length c.args.rows.now) (road g s).start o) (sym c.last_at-at.ensures) (c.requires.linked.latest (road g s).start (road_low a b c.args.roads.now c.args.base c.args.rows.now c.args.j (road g s) st (is_road g s)).0))
     c.requires.held
 
 -- how far the walk has come where it has come to row i
@@ -36,11 +36,11 @@ walking g c = walking_same c.in-Some.is c.loop-at.invariant
 links : (g : given.Over) (c : In-Some g) → Linked c.args.rows.now c.loop-at.frontier.last c.loop-at.frontier.prev
 links g c = subst (λ l. Linked c.args.rows.now l c.loop-at.frontier.prev) (sym c.loop-at.invariant.same_last) (subst (λ l. Linked c.args.rows.now c.args.frontier.now.last l) (sym c.loop-at.invariant.same_prev) c.requires.linked)
 
-pub try-row-requires : goal.try-row-requires
+pub try_row-requires : goal.try_row-requires
 unfolding road
-try-row-requires g c =
-    let s = (goal.at.try-row-requires g c).Start in
-    let i = (goal.at.try-row-requires g c).In-Some in
+try_row-requires g c =
+    let s = (goal.at.try_row-requires g c).Start in
+    let i = (goal.at.try_row-requires g c).In-Some in
     let st = c.requires.standing in
     (search rules, record { standing = st; linked = links g i; follows = walk_follows (g.A.Criterion.meaning c.args.a.now) (g.B.Criterion.meaning c.args.b.now) st.first_laws st.second_laws c.args.roads.now c.args.base c.args.rows.now c.args.j c.args.place (road g s) (is_road g s) (c.requires.enters.1 (road g s) (is_road g s)).1 c.in-Some.i _ _ _ _ _ _ _ _ c.requires.enters (walking g i) })
 
@@ -54,15 +54,15 @@ loop-at-preserved g c =
     let low = (road_low (g.A.Criterion.meaning c.args.a.now) (g.B.Criterion.meaning c.args.b.now) c.args.roads.now c.args.base c.args.rows.now c.args.j (road g s) st (is_road g s)).1 in
     let ends = (c.requires.enters.1 (road g s) (is_road g s)).1 in
     walking_same (sym c.before-at.ensures)
-    (walk_step (g.A.Criterion.meaning c.args.a.now) (g.B.Criterion.meaning c.args.b.now) st.first_laws st.second_laws c.args.roads.now c.args.base c.args.rows.now c.args.j c.args.place (road g s) (is_road g s) ends c.in-Some.i c.loop-at.frontier.last c.loop-at.frontier.prev c.args.frontier.now.last c.args.frontier.now.prev c.try-row.new.frontier.last c.try-row.new.frontier.prev c.args.frontier.now.found c.args.frontier.now.best c.loop-at.frontier.found c.loop-at.frontier.best c.try-row.new.frontier.found c.try-row.new.frontier.best
-    st (links g i) (omega (arith, w.others.flags, c.requires.sized.flags, low, ends)) (omega (arith, w.others.rows, c.requires.sized.rows, low, ends)) w c.try-row.ensures.tried c.try-row.ensures.last c.try-row.ensures.prev)
+    (walk_step (g.A.Criterion.meaning c.args.a.now) (g.B.Criterion.meaning c.args.b.now) st.first_laws st.second_laws c.args.roads.now c.args.base c.args.rows.now c.args.j c.args.place (road g s) (is_road g s) ends c.in-Some.i c.loop-at.frontier.last c.loop-at.frontier.prev c.args.frontier.now.last c.args.frontier.now.prev c.try_row.new.frontier.last c.try_row.new.frontier.prev c.args.frontier.now.found c.args.frontier.now.best c.loop-at.frontier.found c.loop-at.frontier.best c.try_row.new.frontier.found c.try_row.new.frontier.best
+    st (links g i) (omega (arith, w.others.flags, c.requires.sized.flags, low, ends)) (omega (arith, w.others.rows, c.requires.sized.rows, low, ends)) w c.try_row.ensures.tried c.try_row.ensures.last c.try_row.ensures.prev)
 
 pub loop-at-smaller : goal.loop-at-smaller
 loop-at-smaller g c =
     let i = (goal.at.loop-at-smaller g c).In-Some in
-    let t = c.try-row.ensures.tried in
+    let t = c.try_row.ensures.tried in
     let rs = c.args.rows.now in
-    let earlier : Latest rs c.in-Some.i t.row.end c.before-at.result = subst (λ o. Latest rs c.in-Some.i t.row.end o) (sym c.before-at.ensures) (subst (λ l. Latest rs c.in-Some.i t.row.end (get_or l c.in-Some.i None)) (sym c.try-row.ensures.prev) ((links g i).before c.in-Some.i t.row t.extends.row)) in
+    let earlier : Latest rs c.in-Some.i t.row.end c.before-at.result = subst (λ o. Latest rs c.in-Some.i t.row.end o) (sym c.before-at.ensures) (subst (λ l. Latest rs c.in-Some.i t.row.end (get_or l c.in-Some.i None)) (sym c.try_row.ensures.prev) ((links g i).before c.in-Some.i t.row t.extends.row)) in
     subst (λ o. left_of c.before-at.result < left_of o) (sym c.in-Some.is) (left_falls rs c.in-Some.i t.row.end c.before-at.result earlier)
 
 pub returns : goal.returns
@@ -76,5 +76,5 @@ returns g c =
       prev = w.same_prev;
       kept = w.others;
       held = walk_end (g.A.Criterion.meaning c.args.a.now) (g.B.Criterion.meaning c.args.b.now) st.first_laws st.second_laws c.args.roads.now c.args.base c.args.rows.now c.args.j c.args.place (road g s) (is_road g s) (c.requires.enters.1 (road g s) (is_road g s)).1 c.loop-at.frontier.last c.loop-at.frontier.prev c.args.frontier.now.last c.args.frontier.now.prev c.args.frontier.now.found c.args.frontier.now.best c.loop-at.frontier.found c.loop-at.frontier.best
-          (walking_same c.in-default.is w);
+          (walking_same c.in_default.is w);
     }

@@ -18,14 +18,14 @@ inside : (g : given.Over) (c : Else-origin-places g) → c.args.origin < c.args.
 inside g c = omega (arith, c.places-places.ensures, c.if-origin-places.false)
 
 fits : (g : given.Over) (c : Else-origin-places g) → c.args.used + length c.args.free.now ≤ 65536
-fits g c = c.if-passes-end.ensures
+fits g c = c.if-passes_end.ensures
 
 -- the part of the road table that is searched
 cut : (g : given.Over) (c : Else-origin-places g) → c.roads-count.result - 0 ≡ c.args.network.now.roads
 cut g c = omega (arith, c.roads-count.ensures)
 
-pub returns-then-passes-end : goal.returns-then-passes-end
-returns-then-passes-end g c = λ (fits, _). omega (arith, c.if-passes-end.ensures)
+pub returns-then-passes_end : goal.returns-then-passes_end
+returns-then-passes_end g c = λ (fits, _). omega (arith, c.if-passes_end.ensures)
 
 pub returns-then-not-serves : goal.returns-then-not-serves
 returns-then-not-serves g c = λ (_, s). apart (c.if-not-serves.ensures.1 (subst (λ p. Serves p c.roads-count.result c.args.roads.now) (sym c.places-places.ensures) (subst (λ n. Serves c.args.network.now.places n c.args.roads.now) (sym c.roads-count.ensures) s))) refl
@@ -35,7 +35,7 @@ grow-requires g c =
     let s = (goal.at.grow-requires g c).Else-origin-places in
     let a = g.A.Criterion.meaning c.args.a.now in
     let b = g.B.Criterion.meaning c.args.b.now in
-    let f = founded a b c.args.network.now c.args.roads.now c.args.origin c.args.used (serving g s) (inside g s) c.laws-stand.ensures c.laws-stand-2.ensures (length c.args.free.now) (fits g s) c.args.network.now.places_fit c.args.network.now.roads_fit in
+    let f = founded a b c.args.network.now c.args.roads.now c.args.origin c.args.used (serving g s) (inside g s) c.laws_stand.ensures c.laws_stand-2.ensures (length c.args.free.now) (fits g s) c.args.network.now.places_fit c.args.network.now.roads_fit in
     (search rules, subst (λ k. Founded a b (take k c.args.roads.now) c.places-places.result c.args.origin c.args.used (length c.args.free.now)) (sym (cut g s)) (subst (λ p. Founded a b (take c.args.network.now.roads c.args.roads.now) p c.args.origin c.args.used (length c.args.free.now)) (sym c.places-places.ensures) f))
 
 pub returns-in-Some : goal.returns-in-Some
@@ -47,7 +47,7 @@ returns-in-Some g c =
     let rs = take c.in-Some.count c.grow.new.rows in (
       (fits g s, serving g s),
       inside g s,
-      accepted a b c.args.network.now c.args.roads.now c.args.origin c.args.used (serving g s) (inside g s) c.laws-stand.ensures c.laws-stand-2.ensures c.in-Some.count c.grow.new.rows few
+      accepted a b c.args.network.now c.args.roads.now c.args.origin c.args.used (serving g s) (inside g s) c.laws_stand.ensures c.laws_stand-2.ensures c.in-Some.count c.grow.new.rows few
           (subst (λ k. Grew a b (take k c.args.roads.now) c.args.network.now.places c.args.origin c.args.used rs) (cut g s) (subst (λ p. Grew a b (take (c.roads-count.result - 0) c.args.roads.now) p c.args.origin c.args.used rs) c.places-places.ensures grew))
           (λ z f. none z (subst (λ k. Fresh a b (take k c.args.roads.now) c.args.used rs z) (sym (cut g s)) f)),
     )
@@ -61,6 +61,6 @@ returns-in-None g c =
     let why = subst (λ k. (length rs ≡ 0) ⊎ (Grew a b (take k c.args.roads.now) c.args.network.now.places c.args.origin c.args.used rs × ((x : _) × Next a b (take k c.args.roads.now) c.args.used rs x))) (cut g s) (subst (λ p. (length rs ≡ 0) ⊎ (Grew a b (take (c.roads-count.result - 0) c.args.roads.now) p c.args.origin c.args.used rs × ((x : _) × Next a b (take (c.roads-count.result - 0) c.args.roads.now) c.args.used rs x))) c.places-places.ensures c.in-None.ensures) in (
       (fits g s, serving g s),
       inside g s,
-      subst (Crowded a b c.args.network.now c.args.roads.now c.args.origin) c.grow.auto.rows (crowded a b c.args.network.now c.args.roads.now c.args.origin c.args.used (serving g s) (inside g s) c.laws-stand.ensures c.laws-stand-2.ensures rs why),
-      λ m number. subst (λ k. k < m) c.grow.auto.rows (overfull a b c.args.network.now c.args.roads.now c.args.origin c.args.used (serving g s) (inside g s) c.laws-stand.ensures c.laws-stand-2.ensures rs why m number),
+      subst (Crowded a b c.args.network.now c.args.roads.now c.args.origin) c.grow.auto.rows (crowded a b c.args.network.now c.args.roads.now c.args.origin c.args.used (serving g s) (inside g s) c.laws_stand.ensures c.laws_stand-2.ensures rs why),
+      λ m number. subst (λ k. k < m) c.grow.auto.rows (overfull a b c.args.network.now c.args.roads.now c.args.origin c.args.used (serving g s) (inside g s) c.laws_stand.ensures c.laws_stand-2.ensures rs why m number),
     )

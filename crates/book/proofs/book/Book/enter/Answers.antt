@@ -2,8 +2,8 @@ use Rattle.std.proofs.Common.{◌≡◌, ◌<◌, ◌≤◌, length, sym, ap, �
 use Rattle.book.proofs.Sheets.{total_more, one_more, following_more}
 use Rattle.book.proofs.book.Book.enter.Goals as goal
 
-pub invariant-of-self : goal.invariant-of-self
-invariant-of-self g c =
+pub invariant_of-self : goal.invariant_of-self
+invariant_of-self g c =
     let k = c.args.self.now in
     let s = c.args.sheet in
     let low : k.count < length k.sheets = omega (arith, k.long, c.requires.room) in

@@ -7,7 +7,7 @@ use Rattle.filecases.proofs.reading.Reading.drain.Goals as goal
 -- a record that was handed out is taken from what is left
 pub loop-item-smaller : goal.loop-item-smaller
 loop-item-smaller c =
-    let handed = subst (λ o. Handed c.loop-item.reader (Ok o) c.next.new.self) c.in-Some.is c.in-ok-item.ensures in
+    let handed = subst (λ o. Handed c.loop-item.reader (Ok o) c.next.new.self) c.in-Some.is c.in_ok-item.ensures in
     let e = entry c.in-Some.item.record in
     let left = left_of c.loop-item.reader in
     let fits = leads_length left e handed.1 in

@@ -3,4 +3,4 @@ use Rattle.roadfile.proofs.Records.{opens}
 use Rattle.roadfile.proofs.reader.Reader.open.Goals as goal
 
 pub returns : goal.returns
-returns c = (opens c.args.file.now c.u16-at.result (search rules) c.u16-at.ensures (search rules), refl, refl)
+returns c = (opens c.args.file.now c.u16_at.result (search rules) c.u16_at.ensures (search rules), refl, refl)
