@@ -35,6 +35,9 @@ stands_more a b n roads origin t xs k r low h = record {
   trail = trail_more t xs k (map (λ u. u.road) h.uses) h.trail;
   visits = h.visits;
   distinct = h.distinct;
+  short = h.short;
+  first = h.first;
+  second = h.second;
   lawful = record { fits = h.lawful.fits; made = made_more n.roads t xs k r.roads r.source low h.lawful.made };
 }
 

@@ -53,6 +53,7 @@ module _ {V W : Type 0} (a : Meaning V) (b : Meaning W) (n : Network) (roads : L
             let h = grown_of before rs long grew in
             let known = h.known i r at in
             let tested = grew.standing.tested i r at in
+            let short = few_roads a b la lb (take n.roads roads) origin before rs h n.places (counted_named n roads serves) inside i r at in
             record {
               uses = known.uses;
               stops = known.stops;
@@ -62,10 +63,13 @@ module _ {V W : Type 0} (a : Meaning V) (b : Meaning W) (n : Network) (roads : L
               trail = subst (λ m. Trail (before ++ rs) (m + i) (map (λ u. u.road) known.uses)) long known.trail;
               visits = known.visits;
               distinct = known.distinct;
+              short = short;
+              first = tested.passing.first;
+              second = tested.passing.second;
               lawful = record {
                 fits = record {
                   ends = ends_within a b la lb (take n.roads roads) origin before rs h n.places (counted_named n roads serves) inside i r at;
-                  near = omega (arith, few_roads a b la lb (take n.roads roads) origin before rs h n.places (counted_named n roads serves) inside i r at);
+                  near = omega (arith, short);
                   first = tested.passing.first;
                   second = tested.passing.second;
                 };
