@@ -7,8 +7,12 @@ invariant_of-self g c =
     let k = c.args.self.now in
     let s = c.args.sheet in
     let low : k.count < length k.sheets = omega (arith, k.long, c.requires.room) in
-    let long = length-set k.sheets k.count s ∙ k.long in
-    let following = following_more k.sheets k.count s low k.following (c.requires.start ∙ k.used_is) in
-    let rooted = one_more k.sheets k.count s low (λ _ x. x.origin < k.network.places) k.rooted c.requires.origin in
-    let reaching = one_more k.sheets k.count s low (λ _ x. x.reach ≤ 1048576) k.reaching c.requires.reach in
-    (long, (omega (arith, c.requires.room), (c.requires.few, (omega (arith, total_more k.sheets k.count s low, k.used_is), (following, (rooted, (reaching, tt)))))))
+    record {
+      long = length-set k.sheets k.count s ∙ k.long;
+      count_fits = omega (arith, c.requires.room);
+      used_fits = c.requires.few;
+      used_is = omega (arith, total_more k.sheets k.count s low, k.used_is);
+      following = following_more k.sheets k.count s low k.following (c.requires.start ∙ k.used_is);
+      rooted = one_more k.sheets k.count s low (λ _ x. x.origin < k.network.places) k.rooted c.requires.origin;
+      reaching = one_more k.sheets k.count s low (λ _ x. x.reach ≤ 1048576) k.reaching c.requires.reach;
+    }
