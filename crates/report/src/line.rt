@@ -149,8 +149,8 @@ mod tests {
         let mut table = [255; 48];
         let length = write_line(Line::Place { place: 3, rows: 3 }, &mut table);
         assert_eq!(rt; length, 15);
-        assert_eq!(rt; &table[0..15], b"place 3 rows 3\n");
-        assert_eq!(rt; &table[15..48], &[0; 33]);
+        assert_eq!(rt; &table[0..15], b"place 3 rows 3\n".as_slice());
+        assert_eq!(rt; &table[15..48], [0; 33].as_slice());
     }
 
     #[test]
@@ -166,8 +166,8 @@ mod tests {
         assert_eq!(rt; length, 43);
         assert_eq!(rt;
             &table[0..43],
-            b"refused 4294967295 at 18446744073709551615\n"
+            b"refused 4294967295 at 18446744073709551615\n".as_slice()
         );
-        assert_eq!(rt; &table[43..48], &[0; 5]);
+        assert_eq!(rt; &table[43..48], [0; 5].as_slice());
     }
 }

@@ -1,7 +1,7 @@
 ghost use Rattle.std.specs.Prelude.{◌≡◌, ℕ, ◌+◌, ◌<◌, ◌≤◌, true, false, length, take, replicate, Some, None, MatchBool, slice_index_or, slice_set};
 ghost use Rattle.criteria.specs.Meaning.{Strict, Laws};
 ghost use Rattle.growth.specs.Complete.{EmptyRow};
-ghost use Rattle.frontier.specs.Frontiers.{Built, Passing, Tested, Placed, Shown, Weighed, Outdone, Foremost, Trying, Tried, Entering, Held, Kept, Sized, Seeing, Renewed, Renewable, Ready, Chosen, Advancing, Searching, Searched, Blank, Beginning, Founded};
+ghost use Rattle.frontier.specs.Frontiers.{Built, Passing, Tested, Linked, Shown, Weighed, Outdone, Foremost, Standing, Follows, Tried, Held, Enters, Kept, Sized, Newest, Renewed, Older, Ready, Chosen, Searching, Searched, Founded};
 ghost use Rattle.sweep.specs.Steps.{Advanced};
 
 use crate::ahead;
@@ -83,7 +83,8 @@ fn shadowed<B: Criterion, X>(
     rows: &[Row<X, B::Value>],
     q: &Row<X, B::Value>,
 ) -> bool
-    requires { Placed rows.now frontier.now.last frontier.now.prev q.now }
+    requires end_bound { q.now.end < 2048 }
+    requires linked { Linked rows.now frontier.now.last frontier.now.prev }
     ensures { Shown (B.Criterion.meaning b.now) rows.now q.now (slice_index_or frontier.now.last q.now.end None) result }
 {
     match last_at(frontier, q.end) {
@@ -127,7 +128,8 @@ fn offer<A: Criterion, B: Criterion>(
     rows: &[Row<A::Value, B::Value>],
     q: Row<A::Value, B::Value>,
 )
-    requires { Placed rows.now frontier.old.last frontier.old.prev q }
+    requires end { q.end < 2048 }
+    requires linked { Linked rows.now frontier.old.last frontier.old.prev }
     ensures last { frontier.new.last ≡ frontier.old.last }
     ensures prev { frontier.new.prev ≡ frontier.old.prev }
     ensures offered { Weighed (A.Criterion.meaning a.now) (B.Criterion.meaning b.now) rows.now q (slice_index_or frontier.old.last q.end None) frontier.old.found frontier.old.best frontier.new.found frontier.new.best }
@@ -152,7 +154,9 @@ fn try_row<A: Criterion, B: Criterion>(
     i: u32,
     j: usize,
 )
-    requires { Trying (A.Criterion.meaning a.now) (B.Criterion.meaning b.now) roads.now base rows.now frontier.old.last frontier.old.prev i j }
+    requires standing { Standing (A.Criterion.meaning a.now) (B.Criterion.meaning b.now) roads.now base rows.now }
+    requires linked { Linked rows.now frontier.old.last frontier.old.prev }
+    requires follows { Follows (A.Criterion.meaning a.now) (B.Criterion.meaning b.now) roads.now rows.now i j }
     ensures last { frontier.new.last ≡ frontier.old.last }
     ensures prev { frontier.new.prev ≡ frontier.old.prev }
     ensures tried { Tried (A.Criterion.meaning a.now) (B.Criterion.meaning b.now) roads.now base rows.now i j frontier.old.last frontier.old.found frontier.old.best frontier.new.found frontier.new.best }
@@ -180,7 +184,11 @@ fn try_rows<A: Criterion, B: Criterion>(
     j: usize,
     place: u32,
 )
-    requires { Entering (A.Criterion.meaning a.now) (B.Criterion.meaning b.now) roads.now base rows.now frontier.old.last frontier.old.prev frontier.old.found frontier.old.best j place }
+    requires standing { Standing (A.Criterion.meaning a.now) (B.Criterion.meaning b.now) roads.now base rows.now }
+    requires linked { Linked rows.now frontier.old.last frontier.old.prev }
+    requires enters { Enters (A.Criterion.meaning a.now) (B.Criterion.meaning b.now) roads.now j place }
+    requires sized { Sized frontier.old.found frontier.old.best }
+    requires held { Held (A.Criterion.meaning a.now) (B.Criterion.meaning b.now) roads.now base rows.now frontier.old.found frontier.old.best (λ _ k. k < j) place }
     ensures last { frontier.new.last ≡ frontier.old.last }
     ensures prev { frontier.new.prev ≡ frontier.old.prev }
     ensures kept { Kept (A.Criterion.meaning a.now) (B.Criterion.meaning b.now) place frontier.old.found frontier.old.best frontier.new.found frontier.new.best }
@@ -212,7 +220,12 @@ fn see_road<A: Criterion, B: Criterion>(
     newest: u32,
     place: u32,
 )
-    requires { Seeing (A.Criterion.meaning a.now) (B.Criterion.meaning b.now) roads.now base rows.now frontier.old.last frontier.old.prev frontier.old.found frontier.old.best newest place j }
+    requires standing { Standing (A.Criterion.meaning a.now) (B.Criterion.meaning b.now) roads.now base rows.now }
+    requires linked { Linked rows.now frontier.old.last frontier.old.prev }
+    requires sized { Sized frontier.old.found frontier.old.best }
+    requires added { Newest (A.Criterion.meaning a.now) (B.Criterion.meaning b.now) rows.now newest place }
+    requires within { j < length roads.now }
+    requires renewed { Renewed (A.Criterion.meaning a.now) (B.Criterion.meaning b.now) roads.now base rows.now place newest frontier.old.found frontier.old.best j }
     ensures last { frontier.new.last ≡ frontier.old.last }
     ensures prev { frontier.new.prev ≡ frontier.old.prev }
     ensures sized { Sized frontier.new.found frontier.new.best }
@@ -243,8 +256,35 @@ fn forget<X: Copy, Y: Copy>(frontier: &mut Frontier<X, Y>, place: u32)
     frontier.found[place as usize] = false;
 }
 
-// After a row was added at the place: every place holds the best uncovered extension of the rows up to it again.
+// After a row was added at the place: every place holds the best uncovered extension into it again.
 fn renew<A: Criterion, B: Criterion>(
+    a: &A,
+    b: &B,
+    frontier: &mut Frontier<A::Value, B::Value>,
+    roads: &[Road],
+    rows: &[Row<A::Value, B::Value>],
+    base: u32,
+    newest: u32,
+    place: u32,
+)
+    requires standing { Standing (A.Criterion.meaning a.now) (B.Criterion.meaning b.now) roads.now base rows.now }
+    requires linked { Linked rows.now frontier.old.last frontier.old.prev }
+    requires sized { Sized frontier.old.found frontier.old.best }
+    requires added { Newest (A.Criterion.meaning a.now) (B.Criterion.meaning b.now) rows.now newest place }
+    requires older { Older (A.Criterion.meaning a.now) (B.Criterion.meaning b.now) roads.now base rows.now place newest frontier.old.found frontier.old.best }
+    ensures last { frontier.new.last ≡ frontier.old.last }
+    ensures prev { frontier.new.prev ≡ frontier.old.prev }
+    ensures sized { Sized frontier.new.found frontier.new.best }
+    ensures ready { Ready (A.Criterion.meaning a.now) (B.Criterion.meaning b.now) roads.now base rows.now frontier.new.found frontier.new.best }
+{
+    forget(frontier, place);
+    for j in 0..roads.len() {
+        see_road(a, b, frontier, roads, rows, base, j, newest, place);
+    }
+}
+
+// The same over the front of a table, up to and with the newest row.
+fn renew_front<A: Criterion, B: Criterion>(
     a: &A,
     b: &B,
     frontier: &mut Frontier<A::Value, B::Value>,
@@ -254,17 +294,19 @@ fn renew<A: Criterion, B: Criterion>(
     newest: u32,
     place: u32,
 )
-    requires { (newest < length table.now) × Renewable (A.Criterion.meaning a.now) (B.Criterion.meaning b.now) roads.now base (take (newest + 1) table.now) frontier.old.last frontier.old.prev frontier.old.found frontier.old.best newest place }
+    requires within { newest < length table.now }
+    requires standing { Standing (A.Criterion.meaning a.now) (B.Criterion.meaning b.now) roads.now base (take (newest + 1) table.now) }
+    requires linked { Linked (take (newest + 1) table.now) frontier.old.last frontier.old.prev }
+    requires sized { Sized frontier.old.found frontier.old.best }
+    requires added { Newest (A.Criterion.meaning a.now) (B.Criterion.meaning b.now) (take (newest + 1) table.now) newest place }
+    requires older { Older (A.Criterion.meaning a.now) (B.Criterion.meaning b.now) roads.now base (take (newest + 1) table.now) place newest frontier.old.found frontier.old.best }
     ensures last { frontier.new.last ≡ frontier.old.last }
     ensures prev { frontier.new.prev ≡ frontier.old.prev }
     ensures sized { Sized frontier.new.found frontier.new.best }
     ensures ready { Ready (A.Criterion.meaning a.now) (B.Criterion.meaning b.now) roads.now base (take (newest + 1) table.now) frontier.new.found frontier.new.best }
 {
     let rows = &table[0..newest as usize + 1];
-    forget(frontier, place);
-    for j in 0..roads.len() {
-        see_road(a, b, frontier, roads, rows, base, j, newest, place);
-    }
+    renew(a, b, frontier, roads, rows, base, newest, place);
 }
 
 // The better of what two places hold; `choice` holds something, and the place p may.
@@ -368,7 +410,9 @@ fn advance<A: Criterion, B: Criterion>(
     places: u32,
     n: u32,
 ) -> Step
-    requires { Advancing (A.Criterion.meaning a.now) (B.Criterion.meaning b.now) roads.now places base n rows.old frontier.old.found frontier.old.best frontier.old.last frontier.old.prev }
+    requires searching { (origin : ℕ) × Searching (A.Criterion.meaning a.now) (B.Criterion.meaning b.now) roads.now places origin base (take n rows.old) frontier.old.found frontier.old.best frontier.old.last frontier.old.prev }
+    requires within { n ≤ length rows.old }
+    requires room { base + length rows.old ≤ 65536 }
     ensures { (origin : ℕ) → Searching (A.Criterion.meaning a.now) (B.Criterion.meaning b.now) roads.now places origin base (take n rows.old) frontier.old.found frontier.old.best frontier.old.last frontier.old.prev → Advanced (A.Criterion.meaning a.now) (B.Criterion.meaning b.now) roads.now places origin base n rows.old rows.new frontier.new.found frontier.new.best frontier.new.last frontier.new.prev result }
 {
     let Some(place) = pick(a, b, frontier, places) else {
@@ -379,7 +423,7 @@ fn advance<A: Criterion, B: Criterion>(
     }
     rows[n as usize] = held_at(frontier, place);
     link(frontier, place, n);
-    renew(a, b, frontier, roads, rows, base, n, place);
+    renew_front(a, b, frontier, roads, rows, base, n, place);
     Step::Added
 }
 
@@ -393,7 +437,9 @@ fn climb<A: Criterion, B: Criterion>(
     base: u32,
     places: u32,
 ) -> Option<u32>
-    requires { Advancing (A.Criterion.meaning a.now) (B.Criterion.meaning b.now) roads.now places base 1 rows.old frontier.old.found frontier.old.best frontier.old.last frontier.old.prev }
+    requires searching { (origin : ℕ) × Searching (A.Criterion.meaning a.now) (B.Criterion.meaning b.now) roads.now places origin base (take 1 rows.old) frontier.old.found frontier.old.best frontier.old.last frontier.old.prev }
+    requires some { 1 ≤ length rows.old }
+    requires room { base + length rows.old ≤ 65536 }
     ensures { (origin : ℕ) → Searching (A.Criterion.meaning a.now) (B.Criterion.meaning b.now) roads.now places origin base (take 1 rows.old) frontier.old.found frontier.old.best frontier.old.last frontier.old.prev → Searched (A.Criterion.meaning a.now) (B.Criterion.meaning b.now) roads.now places origin base rows.new result }
 {
     let mut n = 1;
@@ -430,18 +476,25 @@ fn begin<A: Criterion, B: Criterion>(
     places: u32,
     origin: u32,
 )
-    requires { Beginning (A.Criterion.meaning a.now) (B.Criterion.meaning b.now) roads.now places origin base (length rows.old) frontier.old.found frontier.old.best frontier.old.last frontier.old.prev }
-    ensures stands { Searching (A.Criterion.meaning a.now) (B.Criterion.meaning b.now) roads.now places origin base (take 1 rows.new) frontier.new.found frontier.new.best frontier.new.last frontier.new.prev }
-    ensures advancing { Advancing (A.Criterion.meaning a.now) (B.Criterion.meaning b.now) roads.now places base 1 rows.new frontier.new.found frontier.new.best frontier.new.last frontier.new.prev }
+    requires founded { Founded (A.Criterion.meaning a.now) (B.Criterion.meaning b.now) roads.now places origin base (length rows.old) }
+    requires some { 1 ≤ length rows.old }
+    requires found { frontier.old.found ≡ replicate 2048 false }
+    requires best { length frontier.old.best ≡ 2048 }
+    requires last { frontier.old.last ≡ replicate 2048 None }
+    requires prev { length frontier.old.prev ≡ 65536 }
+    ensures { Searching (A.Criterion.meaning a.now) (B.Criterion.meaning b.now) roads.now places origin base (take 1 rows.new) frontier.new.found frontier.new.best frontier.new.last frontier.new.prev }
 {
     rows[0] = empty_row(a, b, origin);
     link(frontier, origin, 0);
-    renew(a, b, frontier, roads, rows, base, 0, origin);
+    renew_front(a, b, frontier, roads, rows, base, 0, origin);
 }
 
 // Empties the frontier.
 fn clear<X: Copy, Y: Copy>(frontier: &mut Frontier<X, Y>, first: X, second: Y)
-    ensures { Blank frontier.new.found frontier.new.best frontier.new.last frontier.new.prev }
+    ensures found { frontier.new.found ≡ replicate 2048 false }
+    ensures best { length frontier.new.best ≡ 2048 }
+    ensures last { frontier.new.last ≡ replicate 2048 None }
+    ensures prev { length frontier.new.prev ≡ 65536 }
 {
     *frontier = Frontier::new(first, second);
 }

@@ -26,16 +26,16 @@ forward g c origin s =
     forward_same a b c.args.roads.now c.args.places origin c.args.base refl after.found after.best after.last after.prev
     (step_forward a b c.args.roads.now c.args.places origin c.args.base c.args.rows.now c.args.n c.args.frontier.now.found c.args.frontier.now.best c.args.frontier.now.last c.args.frontier.now.prev s c.requires.within c.in-Some.place c.held_at.result c.in-Some.ensures c.held_at.ensures c.if-is_full.ensures c.requires.room)
 
-pub renew-requires : goal.renew-requires
-renew-requires g c =
-    let l = (goal.at.renew-requires g c).After-link in
-    let (origin, s) = c.requires.stands in
-    let f = forward g l origin s in
-    (search rules, (omega (arith, length-set c.args.rows.now c.args.n c.held_at.result, c.if-is_full.ensures), f.renewable))
+pub renew_front-requires : goal.renew_front-requires
+renew_front-requires g c =
+    let l = (goal.at.renew_front-requires g c).After-link in
+    let (origin, s) = c.requires.searching in
+    let r = (forward g l origin s).renewable in
+    (search rules, (omega (arith, length-set c.args.rows.now c.args.n c.held_at.result, c.if-is_full.ensures), (r.standing, (r.linked, (r.sized, (r.added, r.older))))))
 
 pub returns : goal.returns
 returns g c = λ origin s.
-    let after = c.renew.ensures in
+    let after = c.renew_front.ensures in
     let linked = c.link.ensures in (
       c.if-is_full.ensures,
       (

@@ -1,11 +1,10 @@
 use Rattle.std.proofs.Common.{ℕ, false, [], ◌∷◌, length, get_or, take, set, replicate, Some, None, Option, refl, ap, ◌∙◌, arith, length-set, rules}
 use Rattle.std.proofs.lemmas.List.{take_more_set, length-replicate}
-use Rattle.frontier.specs.Frontiers.{Linked, Searching}
 use Rattle.frontier.proofs.Begins.{begin_forward}
 use Rattle.frontier.proofs.Steps.{Forward, forward_same, stands_again}
 use Rattle.sweep.proofs.frontier.begin.Given as given
 use Rattle.sweep.proofs.frontier.begin.Goals as goal
-use Rattle.sweep.proofs.frontier.begin.Goals.{After-link, After-renew}
+use Rattle.sweep.proofs.frontier.begin.Goals.{After-link}
 
 -- the first step, once the row is written and linked
 forward : (g : given.Over) (c : After-link g) → Forward (g.A.Criterion.meaning c.args.a.now) (g.B.Criterion.meaning c.args.b.now) c.args.roads.now c.args.places c.args.origin c.args.base (take 1 (set c.args.rows.now 0 c.empty_row.result)) 0 c.args.origin c.link.new.frontier.found c.link.new.frontier.best c.link.new.frontier.last c.link.new.frontier.prev
@@ -14,29 +13,20 @@ forward g c =
     let b = g.B.Criterion.meaning c.args.b.now in
     let after = c.link.ensures in
     let origin = c.args.origin in
-    forward_same a b c.args.roads.now c.args.places origin c.args.base (take_more_set c.args.rows.now 0 c.empty_row.result c.requires.some) (after.found ∙ c.requires.blank.flags) refl (after.last ∙ ap (λ l. set l origin (Some 0)) c.requires.blank.links) (after.prev ∙ ap (λ l. set c.args.frontier.now.prev 0 (get_or l origin None)) c.requires.blank.links)
-    (begin_forward a b c.args.roads.now c.args.places origin c.args.base (length c.args.rows.now) c.requires.founded c.requires.some c.empty_row.result c.empty_row.ensures c.link.new.frontier.best c.args.frontier.now.prev (ap length after.best ∙ c.requires.blank.rows) c.requires.blank.before)
+    forward_same a b c.args.roads.now c.args.places origin c.args.base (take_more_set c.args.rows.now 0 c.empty_row.result c.requires.some) (after.found ∙ c.requires.found) refl (after.last ∙ ap (λ l. set l origin (Some 0)) c.requires.last) (after.prev ∙ ap (λ l. set c.args.frontier.now.prev 0 (get_or l origin None)) c.requires.last)
+    (begin_forward a b c.args.roads.now c.args.places origin c.args.base (length c.args.rows.now) c.requires.founded c.requires.some c.empty_row.result c.empty_row.ensures c.link.new.frontier.best c.args.frontier.now.prev (ap length after.best ∙ c.requires.best) c.requires.prev)
 
-pub renew-requires : goal.renew-requires
-renew-requires g c =
-    let l = (goal.at.renew-requires g c).After-link in
-    let f = forward g l in
-    (search rules, (omega (arith, length-set c.args.rows.now 0 c.empty_row.result, c.requires.some), f.renewable))
-
--- the sweep stands with its first row
-first : (g : given.Over) (c : After-renew g) → Searching (g.A.Criterion.meaning c.args.a.now) (g.B.Criterion.meaning c.args.b.now) c.args.roads.now c.args.places c.args.origin c.args.base (take 1 (set c.args.rows.now 0 c.empty_row.result)) c.renew.new.frontier.found c.renew.new.frontier.best c.renew.new.frontier.last c.renew.new.frontier.prev
-first g c =
-    let after = c.renew.ensures in
-    let linked = c.link.ensures in
-    stands_again (g.A.Criterion.meaning c.args.a.now) (g.B.Criterion.meaning c.args.b.now) c.args.roads.now c.args.places c.args.origin c.args.base (forward g (goal.at.returns g c).After-link) after.last after.prev
-    (ap length linked.last ∙ length-set c.args.frontier.now.last c.args.origin (Some 0) ∙ ap length c.requires.blank.links ∙ length-replicate {A = Option ℕ} 2048 None)
-    (ap length linked.prev ∙ length-set c.args.frontier.now.prev 0 (get_or c.args.frontier.now.last c.args.origin None) ∙ c.requires.blank.before)
-    after.sized after.ready
+pub renew_front-requires : goal.renew_front-requires
+renew_front-requires g c =
+    let l = (goal.at.renew_front-requires g c).After-link in
+    let r = (forward g l).renewable in
+    (search rules, (omega (arith, length-set c.args.rows.now 0 c.empty_row.result, c.requires.some), (r.standing, (r.linked, (r.sized, (r.added, r.older))))))
 
 pub returns : goal.returns
 returns g c =
-    let s = first g c in
-    record {
-      stands = s;
-      advancing = record { stands = (c.args.origin, s); within = omega (arith, length-set c.args.rows.now 0 c.empty_row.result, c.requires.some); room = omega (arith, length-set c.args.rows.now 0 c.empty_row.result, c.requires.founded.fits) };
-    }
+    let after = c.renew_front.ensures in
+    let linked = c.link.ensures in
+    stands_again (g.A.Criterion.meaning c.args.a.now) (g.B.Criterion.meaning c.args.b.now) c.args.roads.now c.args.places c.args.origin c.args.base (forward g (goal.at.returns g c).After-link) after.last after.prev
+    (ap length linked.last ∙ length-set c.args.frontier.now.last c.args.origin (Some 0) ∙ ap length c.requires.last ∙ length-replicate {A = Option ℕ} 2048 None)
+    (ap length linked.prev ∙ length-set c.args.frontier.now.prev 0 (get_or c.args.frontier.now.last c.args.origin None) ∙ c.requires.prev)
+    after.sized after.ready

@@ -1,22 +1,25 @@
-use Rattle.std.proofs.Common.{◌≡◌, length, take, sym, ap, ◌∙◌, subst, inr, arith}
+use Rattle.std.proofs.Common.{◌≡◌, ◌<◌, ◌≤◌, length, take, sym, ap, ◌∙◌, subst, inl, inr, arith, rules}
 use Rattle.std.proofs.lemmas.List.{take_all}
-use Rattle.frontier.specs.Frontiers.{Grew}
+use Rattle.frontier.specs.Frontiers.{Grew, Standing}
 use Rattle.growth.specs.Growing.{Fresh, Next}
 use Rattle.sweep.proofs.frontier.climb.Goals as goal
 
+pub advance-requires : goal.advance-requires
+advance-requires g c =
+    let (origin, s) = c.requires.searching in
+    (search rules, ((origin, c.loop-n.invariant.1 origin s), (omega (arith, c.loop-n.invariant.0, c.loop-n.auto.rows), omega (arith, c.requires.room, c.loop-n.auto.rows))))
+
 pub loop-n-smaller : goal.loop-n-smaller
 loop-n-smaller g c =
-    let (origin, s) = c.loop-n.invariant.0.stands in
-    let (more, _) = c.in-Added.ensures origin s in
+    let (origin, s) = c.requires.searching in
+    let (more, _) = c.in-Added.ensures origin (c.loop-n.invariant.1 origin s) in
     omega (arith, c.loop-n.auto.rows)
 
 pub loop-n-preserved : goal.loop-n-preserved
 loop-n-preserved g c =
-    let (origin, s) = c.loop-n.invariant.0.stands in
-    let (more, (_, t)) = c.in-Added.ensures origin s in (
-      record { stands = (origin, t); within = omega (arith, c.advance.auto.rows); room = omega (arith, c.loop-n.invariant.0.room, c.advance.auto.rows) },
-      λ o t. (c.in-Added.ensures o (c.loop-n.invariant.1 o t)).1.1,
-    )
+    let (origin, s) = c.requires.searching in
+    let (more, _) = c.in-Added.ensures origin (c.loop-n.invariant.1 origin s) in
+    (omega (arith, c.loop-n.auto.rows), λ o t. (c.in-Added.ensures o (c.loop-n.invariant.1 o t)).1.1)
 
 pub returns-in-Full : goal.returns-in-Full
 returns-in-Full g c = λ o t.
@@ -36,7 +39,7 @@ returns-in-Finished g c = λ o t.
     let b = g.B.Criterion.meaning c.args.b.now in
     let s = c.loop-n.invariant.1 o t in
     let (same, none) = c.in-Finished.ensures o s in (
-      omega (arith, c.loop-n.invariant.0.within, ap length same),
+      omega (arith, c.loop-n.invariant.0, c.loop-n.auto.rows, ap length same),
       (
         subst (λ l. Grew a b c.args.roads.now c.args.places o c.args.base (take c.loop-n.n l)) (sym same) (record { standing = s.standing; same_places = s.same_places; same_origin = s.same_origin }),
         λ z f. none z (subst (λ l. Fresh a b c.args.roads.now c.args.base (take c.loop-n.n l) z) same f),

@@ -1,4 +1,21 @@
+use Rattle.std.proofs.Common.{◌≤◌, length, arith, rules}
+use Rattle.sweep.proofs.frontier.grow.Given as given
 use Rattle.sweep.proofs.frontier.grow.Goals as goal
+use Rattle.sweep.proofs.frontier.grow.Goals.{Else-is_full}
+
+-- the table has an entry
+some : (g : given.Over) (c : Else-is_full g) → 1 ≤ length c.args.rows.now
+some g c = omega (arith, c.if-is_full.ensures)
+
+pub begin-requires : goal.begin-requires
+begin-requires g c =
+    let after = c.clear.ensures in
+    (search rules, (c.requires, (some g (goal.at.begin-requires g c).Else-is_full, (after.found, (after.best, (after.last, after.prev))))))
+
+pub climb-requires : goal.climb-requires
+climb-requires g c =
+    let s = some g (goal.at.climb-requires g c).Else-is_full in
+    (search rules, ((c.args.origin, c.begin.ensures), (omega (arith, s, c.begin.auto.rows), omega (arith, c.requires.fits, c.begin.auto.rows))))
 
 pub returns : goal.returns
-returns g c = c.climb.ensures c.args.origin c.begin.ensures.stands
+returns g c = c.climb.ensures c.args.origin c.begin.ensures

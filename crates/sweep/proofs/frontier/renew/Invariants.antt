@@ -1,6 +1,7 @@
-use Rattle.std.proofs.Common.{◌+◌, take}
+use Rattle.std.proofs.Common.{◌≡◌}
+use Rattle.frontier.specs.Frontiers.{Sized, Renewed}
 use Rattle.frontier.proofs.Renewals.{Renewing}
 use Rattle.sweep.proofs.frontier.renew.Given as goal
 
 abbrev pub invariant-loop-j : goal.invariant-loop-j
-invariant-loop-j g l = Renewing (g.A.Criterion.meaning l.a) (g.B.Criterion.meaning l.b) l.roads l.base (take (l.newest + 1) l.table) l.place l.newest l.j l.frontier.last l.frontier.prev l.initial.frontier.last l.initial.frontier.prev l.frontier.found l.frontier.best
+invariant-loop-j g l = Renewing (g.A.Criterion.meaning l.a) (g.B.Criterion.meaning l.b) l.roads l.base l.rows l.place l.newest l.j l.frontier.last l.frontier.prev l.initial.frontier.last l.initial.frontier.prev l.frontier.found l.frontier.best

@@ -2,7 +2,7 @@ use Rattle.std.proofs.Common.{get_or, sym, refl, ◌∙◌, rules}
 use Rattle.roads.specs.declared.road.Road.{Road}
 use Rattle.roads.proofs.Changes.{unread}
 use Rattle.trips.specs.Plans.{Numbered}
-use Rattle.frontier.proofs.Offers.{road_read, weighed_lengths, starts_low}
+use Rattle.frontier.proofs.Offers.{road_read, weighed_lengths}
 use Rattle.frontier.proofs.Renewals.{renewed_shut, renewed_apart, renewed_entered, renewed_left, held_before, newest_follows, enters_by}
 use Rattle.sweep.proofs.frontier.see_road.Given as given
 use Rattle.sweep.proofs.frontier.see_road.Goals as goal
@@ -35,7 +35,7 @@ try_rows-requires g c =
     let st = c.requires.standing in
     let a = g.A.Criterion.meaning c.args.a.now in
     let b = g.B.Criterion.meaning c.args.b.now in
-    (search rules, record { standing = st; linked = c.requires.linked; starts = starts_low a b c.args.roads.now c.args.base c.args.rows.now c.args.j st c.requires.within; enters = enters_by a b c.args.roads.now c.args.j c.args.place (road g s) (is_road g s) (sym c.if-not-drivable.ensures) c.if-road-place.true; sized = c.requires.sized; held = held_before a b st.first_laws st.second_laws c.args.roads.now c.args.base c.args.rows.now c.args.j c.args.place c.args.newest (road g s) (is_road g s) c.requires.added c.args.frontier.now.found c.args.frontier.now.best c.requires.renewed })
+    (search rules, (st, (c.requires.linked, (enters_by a b c.args.roads.now c.args.j c.args.place (road g s) (is_road g s) (sym c.if-not-drivable.ensures) c.if-road-place.true, (c.requires.sized, held_before a b st.first_laws st.second_laws c.args.roads.now c.args.base c.args.rows.now c.args.j c.args.place c.args.newest (road g s) (is_road g s) c.requires.added c.args.frontier.now.found c.args.frontier.now.best c.requires.renewed)))))
 
 pub returns-then-road-place : goal.returns-then-road-place
 unfolding road
@@ -66,7 +66,7 @@ pub try_row-requires : goal.try_row-requires
 unfolding road
 try_row-requires g c =
     let s = (goal.at.try_row-requires g c).Start in
-    (search rules, record { standing = c.requires.standing; linked = c.requires.linked; follows = newest_follows (g.A.Criterion.meaning c.args.a.now) (g.B.Criterion.meaning c.args.b.now) c.args.roads.now c.args.rows.now c.args.j c.args.place c.args.newest (road g s) (is_road g s) c.requires.added (sym c.if-not-drivable.ensures) c.if-road-place-2.false })
+    (search rules, (c.requires.standing, (c.requires.linked, newest_follows (g.A.Criterion.meaning c.args.a.now) (g.B.Criterion.meaning c.args.b.now) c.args.roads.now c.args.rows.now c.args.j c.args.place c.args.newest (road g s) (is_road g s) c.requires.added (sym c.if-not-drivable.ensures) c.if-road-place-2.false)))
 
 pub returns : goal.returns
 unfolding road

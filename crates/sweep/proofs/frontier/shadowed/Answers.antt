@@ -5,13 +5,13 @@ use Rattle.frontier.proofs.Links.{latest_below}
 use Rattle.sweep.proofs.frontier.shadowed.Goals as goal
 
 pub offset_bounds-rows-k : goal.offset_bounds-rows-k
-offset_bounds-rows-k g c = omega (arith, latest_below _ _ _ _ _ c.in-Some.ensures (c.requires.linked.latest _ c.requires.end))
+offset_bounds-rows-k g c = omega (arith, latest_below _ _ _ _ _ c.in-Some.ensures (c.requires.linked.latest _ c.requires.end_bound))
 
 pub bounds-rows-k : goal.bounds-rows-k
-bounds-rows-k g c = latest_below _ _ _ _ _ c.in-Some.ensures (c.requires.linked.latest _ c.requires.end)
+bounds-rows-k g c = latest_below _ _ _ _ _ c.in-Some.ensures (c.requires.linked.latest _ c.requires.end_bound)
 
 pub bounds-rows-k-in-Some : goal.bounds-rows-k-in-Some
-bounds-rows-k-in-Some g c = latest_below _ _ _ _ _ c.in-Some.ensures (c.requires.linked.latest _ c.requires.end)
+bounds-rows-k-in-Some g c = latest_below _ _ _ _ _ c.in-Some.ensures (c.requires.linked.latest _ c.requires.end_bound)
 
 pub returns-in-Some : goal.returns-in-Some
 returns-in-Some g c =

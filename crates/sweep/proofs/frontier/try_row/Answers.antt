@@ -13,7 +13,7 @@ low : (g : given.Over) (c : After-extension-q g) → c.extension-q.result.end < 
 low g c = ends_low (g.A.Criterion.meaning c.args.a.now) (g.B.Criterion.meaning c.args.b.now) c.args.roads.now c.args.base c.args.rows.now c.args.j _ _ c.index-rows-i.result (get_or c.args.roads.now c.args.j unread) c.extension-q.result c.requires.standing (road_read c.args.roads.now c.args.j unread c.requires.follows.road) c.extension-q.ensures.built
 
 pub offer-requires : goal.offer-requires
-offer-requires g c = (search rules, record { end = low g (goal.at.offer-requires g c).After-extension-q; linked = c.requires.linked })
+offer-requires g c = (search rules, (low g (goal.at.offer-requires g c).After-extension-q, c.requires.linked))
 
 pub returns : goal.returns
 returns g c = record {

@@ -17,6 +17,10 @@ is_road : (g : given.Over) (c : Start g) → Numbered c.args.roads.now c.args.j 
 unfolding road
 is_road g c = road_read c.args.roads.now c.args.j unread c.requires.enters.0
 
+pub last_at-at-requires : goal.last_at-at-requires
+unfolding road
+last_at-at-requires g c = let s = (goal.at.last_at-at-requires g c).Start in (search rules, (road_low _ _ c.args.roads.now c.args.base c.args.rows.now c.args.j (road g s) c.requires.standing (is_road g s)).0)
+
 pub loop-at-init : goal.loop-at-init
 unfolding road
 loop-at-init g c =
@@ -42,7 +46,7 @@ try_row-requires g c =
     let s = (goal.at.try_row-requires g c).Start in
     let i = (goal.at.try_row-requires g c).In-Some in
     let st = c.requires.standing in
-    (search rules, record { standing = st; linked = links g i; follows = walk_follows (g.A.Criterion.meaning c.args.a.now) (g.B.Criterion.meaning c.args.b.now) st.first_laws st.second_laws c.args.roads.now c.args.base c.args.rows.now c.args.j c.args.place (road g s) (is_road g s) (c.requires.enters.1 (road g s) (is_road g s)).1 c.in-Some.i _ _ _ _ _ _ _ _ c.requires.enters (walking g i) })
+    (search rules, (st, (links g i, walk_follows (g.A.Criterion.meaning c.args.a.now) (g.B.Criterion.meaning c.args.b.now) st.first_laws st.second_laws c.args.roads.now c.args.base c.args.rows.now c.args.j c.args.place (road g s) (is_road g s) (c.requires.enters.1 (road g s) (is_road g s)).1 c.in-Some.i _ _ _ _ _ _ _ _ c.requires.enters (walking g i))))
 
 pub loop-at-preserved : goal.loop-at-preserved
 unfolding road
