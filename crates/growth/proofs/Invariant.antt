@@ -1,5 +1,5 @@
 -- What is known of rows that were grown, each the best uncovered extension of those before it.
-use Rattle.std.proofs.Common.{◌≡◌, ℕ, ◌+◌, ◌⊎◌, List, [], ◌∷◌, ◌++◌, map, length, get_or, sym, refl, ap, ◌∙◌, subst, inl, inr, ⊎_elim, append_assoc, arith, length-append}
+use Rattle.std.proofs.Common.{◌≡◌, ℕ, ◌+◌, ◌⊎◌, List, [], ◌∷◌, ◌++◌, map, length, get_or, sym, refl, ap, ◌∙◌, subst, inl, inr, ⊎_elim, append_assoc, arith}
 use Rattle.std.proofs.lemmas.List.{get_or_append_left, get_or_push, length_push, map_push}
 use Rattle.std.proofs.lemmas.Bool.{cases_lt}
 use Rattle.criteria.specs.Covers.{Covers, Precedes}
@@ -7,8 +7,7 @@ use Rattle.criteria.specs.Meaning.{Meaning, Laws}
 use Rattle.roads.specs.declared.road.Road.{Road}
 use Rattle.rows.specs.declared.row.Row.{Row}
 use Rattle.rows.specs.declared.row.Source.TheVariants.{Empty}
-use Rattle.rows.specs.Places.{RowAt, pair_of}
-use Rattle.rows.specs.Sound.{Made}
+use Rattle.rows.specs.Places.{pair_of}
 use Rattle.rows.specs.Trails.{Trail, empty, extend}
 use Rattle.trips.specs.Plans.{Drivable, Drives}
 use Rattle.trips.specs.Trips.{Use, worth}
@@ -18,7 +17,7 @@ use Rattle.growth.specs.Grown.{Passed, Known, Grown}
 use Rattle.growth.specs.Growing.{Ahead, Covered, Extends, Fresh, Next}
 use Rattle.growth.proofs.Orders.{good_join, covers_ahead, ahead_trans, ahead_precedes}
 use Rattle.growth.proofs.Stops.{drives_more, visits_more, distinct_more}
-use Rattle.growth.proofs.Tables.{at_left, at_last, at_one, at_push, at_behind, made_more, trail_more}
+use Rattle.growth.proofs.Tables.{at_left, at_last, at_push, at_behind, trail_more}
 
 module _ {V W : Type 0} (a : Meaning V) (b : Meaning W) (la : Laws a) (lb : Laws b) (roads : List Road) (origin : ℕ) (front : List (Row V W)) where
   -- rows that are added leave a place passed
@@ -26,15 +25,14 @@ module _ {V W : Type 0} (a : Meaning V) (b : Meaning W) (la : Laws a) (lb : Laws
   passed_more rs xs p place h = record { index = h.index; row = h.row; stands = at_left rs xs h.index h.row h.stands; ends = h.ends; covers = h.covers }
 
   -- and a row known
-  known_more : (rs xs : List (Row V W)) (i : ℕ) (p : Row V W) → RowAt rs i p → Known a b roads origin front rs i p → Known a b roads origin front (rs ++ xs) i p
-  known_more rs xs i p at h = record {
+  known_more : (rs xs : List (Row V W)) (i : ℕ) (p : Row V W) → Known a b roads origin front rs i p → Known a b roads origin front (rs ++ xs) i p
+  known_more rs xs i p h = record {
     uses = h.uses;
     stops = h.stops;
     drives = h.drives;
     values = h.values;
     count = h.count;
     trail = subst (λ t. Trail t (length front + i) (map (λ u. u.road) h.uses)) (append_assoc front rs xs) (trail_more (front ++ rs) xs (length front + i) (map (λ u. u.road) h.uses) h.trail);
-    made = subst (λ t. Made (length roads) t (length front + i) p.roads p.source) (append_assoc front rs xs) (made_more (length roads) (front ++ rs) xs (length front + i) p.roads p.source (omega (arith, at.0, length-append front rs)) h.made);
     visits = h.visits;
     distinct = h.distinct;
     passed = λ k lt. passed_more rs xs p (get_or h.stops k 0) (h.passed k lt);
@@ -67,7 +65,6 @@ module _ {V W : Type 0} (a : Meaning V) (b : Meaning W) (la : Laws a) (lb : Laws
           values = λ k. ((ap (λ q. q.first) e ∙ x) k, (ap (λ q. q.second) e ∙ y) k);
           count = sym (ap (λ q. q.roads) e ∙ none);
           trail = empty p (at_behind front (r ∷ []) i p (h, is)) (ap (λ q. q.source) e ∙ src);
-          made = subst (Made (length roads) (front ++ r ∷ []) (length front + i) p.roads) (sym (ap (λ q. q.source) e ∙ src)) (ap (λ q. q.roads) e ∙ none);
           visits = refl;
           distinct = λ j k lt within eq. omega arith;
           passed = λ k lt. let zero_k : k ≡ 0 = omega arith in record {
@@ -111,12 +108,7 @@ module _ {V W : Type 0} (a : Meaning V) (b : Meaning W) (la : Laws a) (lb : Laws
           values = λ i. ((e.first ∙ ap (λ z. a.join z.0 (a.value q.marks)) k.values ∙ sym (worth_more a k.uses u)) i, (e.second ∙ ap (λ z. b.join z.1 (b.value q.marks)) k.values ∙ sym (worth_more b k.uses u)) i);
           count = omega (arith, length_push k.uses u, k.count, e.longer);
           trail = subst (Trail (front ++ (rs ++ r ∷ [])) (length front + length rs)) (sym (map_push (λ v. v.road) k.uses u))
-              (extend r (length front + f.index) f.number (map (λ v. v.road) k.uses) (at_behind front (rs ++ r ∷ []) (length rs) r (at_last rs r)) e.source (known_more rs (r ∷ []) f.index p e.row k).trail);
-          made = subst (Made (length roads) (front ++ (rs ++ r ∷ [])) (length front + length rs) r.roads) (sym e.source) (record {
-            early = omega (arith, e.row.0);
-            road = e.road.0;
-            count = λ x at. e.longer ∙ ap (λ z. z.roads + 1) (at_one (front ++ (rs ++ r ∷ [])) (length front + f.index) p x (at_behind front (rs ++ r ∷ []) f.index p (at_left rs (r ∷ []) f.index p e.row)) at);
-          });
+              (extend r (length front + f.index) f.number (map (λ v. v.road) k.uses) (at_behind front (rs ++ r ∷ []) (length rs) r (at_last rs r)) e.source (known_more rs (r ∷ []) f.index p k).trail);
           visits = visits_more roads origin k.uses p.end k.stops u q k.drives k.visits d;
           distinct = distinct_more k.stops q.end k.distinct (λ i lt eq.
               let h = k.passed i lt in
@@ -168,7 +160,7 @@ module _ {V W : Type 0} (a : Meaning V) (b : Meaning W) (la : Laws a) (lb : Laws
       seed = λ p at. ⊎_elim (g.seed p) (λ (none, _). absurd (omega (arith, g.some))) (at_push rs r 0 p at);
       some = omega (arith, length_push rs r);
       known = λ i p at. ⊎_elim
-          (λ old. known_more rs (r ∷ []) i p old (g.known i p old))
+          (λ old. known_more rs (r ∷ []) i p (g.known i p old))
           (λ (last, is). subst (λ j. Known a b roads origin front (rs ++ r ∷ []) j p) (sym last) (subst (Known a b roads origin front (rs ++ r ∷ []) (length rs)) (sym is) known_new))
           (at_push rs r i p at);
       ordered = λ i j p q lt at_p at_q same. ⊎_elim

@@ -3,6 +3,7 @@ pub mod Complete
 pub mod Counting
 pub mod Invariant
 pub mod Orders
+pub mod Sources
 pub mod Stops
 pub mod Tables
 pub mod Wholeness

@@ -5,7 +5,6 @@ use Rattle.criteria.specs.Meaning.{Meaning}
 use Rattle.roads.specs.declared.road.Road.{Road}
 use Rattle.rows.specs.declared.row.Row.{Row}
 use Rattle.rows.specs.Places.{RowAt, pair_of}
-use Rattle.rows.specs.Sound.{Made}
 use Rattle.rows.specs.Trails.{Trail}
 use Rattle.trips.specs.Plans.{Drives, Visits, Distinct}
 use Rattle.trips.specs.Trips.{Use, worths}
@@ -22,7 +21,7 @@ module _ {V W : Type 0} (a : Meaning V) (b : Meaning W) (roads : List Road) (ori
     pub covers : Covers a b (pair_of row) (pair_of p)
 
   -- the trip that the row p, of index i, stands for: it drives over the roads of the row's trail to the row's end,
-  -- has the row's values and its number of roads, which follows from the row's source, and visits no place twice, since a row stands at each that covers p
+  -- has the row's values and its number of roads, and visits no place twice, since a row stands at each that covers p
   pub record Known (rs : List (Row V W)) (i : ℕ) (p : Row V W) : Type 0 where
     pub uses : List Use
     pub stops : List ℕ
@@ -30,7 +29,6 @@ module _ {V W : Type 0} (a : Meaning V) (b : Meaning W) (roads : List Road) (ori
     pub values : pair_of p ≡ worths a b uses
     pub count : length uses ≡ p.roads
     pub trail : Trail (front ++ rs) (length front + i) (map (λ u. u.road) uses)
-    pub made : Made (length roads) (front ++ rs) (length front + i) p.roads p.source
     pub visits : Visits roads origin uses stops
     pub distinct : Distinct stops
     pub passed : (k : ℕ) → k < length stops → Passed rs p (slice_index stops k)

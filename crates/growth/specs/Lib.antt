@@ -1,3 +1,4 @@
 pub mod Complete
 pub mod Growing
 pub mod Grown
+pub mod Sourced

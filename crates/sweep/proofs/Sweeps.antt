@@ -18,11 +18,12 @@ use Rattle.trips.specs.Trips.{Use}
 use Rattle.growth.specs.Complete.{Inside}
 use Rattle.growth.specs.Grown.{Grown}
 use Rattle.growth.specs.Growing.{Fresh, Next}
+use Rattle.growth.specs.Sourced.{Sourced}
 use Rattle.growth.proofs.Bounds.{ends_within, few_roads}
 use Rattle.growth.proofs.Counting.{exactly, room, some_row, crowd, crowd_one}
 use Rattle.growth.proofs.Wholeness.{page}
 use Rattle.frontier.specs.Frontiers.{Founded, Grew, Searched}
-use Rattle.sweep.specs.Sweeps.{plan_of, Accepted, Crowded}
+use Rattle.sweep.specs.Sweeps.{plan_of, Accepted, Crowded, MayStand}
 
 -- the counted roads of a table that serves a network name its places
 pub counted_named : (n : Network) (roads : List Road) → Serving n roads → (i : ℕ) (r : Road) → Numbered (take n.roads roads) i r → Within n.places r
@@ -53,7 +54,6 @@ module _ {V W : Type 0} (a : Meaning V) (b : Meaning W) (n : Network) (roads : L
             let h = grown_of before rs long grew in
             let known = h.known i r at in
             let tested = grew.standing.tested i r at in
-            let short = few_roads a b la lb (take n.roads roads) origin before rs h n.places (counted_named n roads serves) inside i r at in
             record {
               uses = known.uses;
               stops = known.stops;
@@ -63,20 +63,29 @@ module _ {V W : Type 0} (a : Meaning V) (b : Meaning W) (n : Network) (roads : L
               trail = subst (λ m. Trail (before ++ rs) (m + i) (map (λ u. u.road) known.uses)) long known.trail;
               visits = known.visits;
               distinct = known.distinct;
-              short = short;
+              short = few_roads a b la lb (take n.roads roads) origin before rs h n.places (counted_named n roads serves) inside i r at;
               first = tested.passing.first;
               second = tested.passing.second;
-              lawful = record {
-                fits = record {
-                  ends = ends_within a b la lb (take n.roads roads) origin before rs h n.places (counted_named n roads serves) inside i r at;
-                  near = omega (arith, short);
-                  first = tested.passing.first;
-                  second = tested.passing.second;
-                };
-                made = subst (λ m. Made m (before ++ rs) (used + i) r.roads r.source) (length-take-le n.roads roads serves.long) (subst (λ m. Made (length (take n.roads roads)) (before ++ rs) (m + i) r.roads r.source) long known.made);
-              };
             };
       }
+
+  -- the rows of a sweep may stand where they do
+  pub may_stand : (count : ℕ) (rows : List (Row V W)) → Grew a b (take n.roads roads) n.places origin used (take count rows) → Sourced (length (take n.roads roads)) used (take count rows) → MayStand a b n used count rows
+  may_stand count rows grew sourced = record {
+    each = λ before long i r at.
+        let rs = take count rows in
+        let h = grown_of before rs long grew in
+        let passing = (grew.standing.tested i r at).passing in
+        record {
+          fits = record {
+            ends = ends_within a b la lb (take n.roads roads) origin before rs h n.places (counted_named n roads serves) inside i r at;
+            near = omega (arith, few_roads a b la lb (take n.roads roads) origin before rs h n.places (counted_named n roads serves) inside i r at);
+            first = passing.first;
+            second = passing.second;
+          };
+          made = subst (λ m. Made m (before ++ rs) (used + i) r.roads r.source) (length-take-le n.roads roads serves.long) (sourced.each before long i r at);
+        };
+  }
 
   pub overfull : (rows : List (Row V W)) → (length rows ≡ 0) ⊎ (Grew a b (take n.roads roads) n.places origin used rows × ((c : Row V W) × Next a b (take n.roads roads) used rows c)) → (m : ℕ) → Rows a b n.places (plan_of a b n roads origin) m → length rows < m
   overfull rows why m number =

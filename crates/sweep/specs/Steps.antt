@@ -4,6 +4,7 @@ use Rattle.criteria.specs.Meaning.{Meaning}
 use Rattle.roads.specs.declared.road.Road.{Road}
 use Rattle.rows.specs.declared.row.Row.{Row}
 use Rattle.growth.specs.Growing.{Fresh, Next}
+use Rattle.growth.specs.Sourced.{Sourced}
 use Rattle.frontier.specs.Frontiers.{Searching}
 use Rattle.sweep.specs.declared.frontier.Step.{Step}
 use Rattle.sweep.specs.declared.frontier.Step.TheVariants.{Added, Full, Finished}
@@ -14,3 +15,9 @@ module _ {V W : Type 0} (a : Meaning V) (b : Meaning W) where
   Advanced roads places origin base n table table' found best last prev Added = (n < length table) × ((take n table' ≡ take n table) × Searching a b roads places origin base (take (n + 1) table') found best last prev)
   Advanced roads places origin base n table table' found best last prev Full = (length table ≤ n) × ((table' ≡ table) × ((c : Row V W) × Next a b roads base (take n table) c))
   Advanced roads places origin base n table table' found best last prev Finished = (table' ≡ table) × ((z : Row V W) → Fresh a b roads base (take n table) z → ⊥)
+
+-- where a row was added behind n rows, each of them and the new one has its source before it
+abbrev pub SourcedAfter : {V W : Type 0} → ℕ → ℕ → ℕ → List (Row V W) → Step → Type 0
+SourcedAfter roads base n table Added = Sourced roads base (take (n + 1) table)
+SourcedAfter roads base n table Full = Unit {0}
+SourcedAfter roads base n table Finished = Unit {0}

@@ -20,8 +20,7 @@ module _ {V W : Type 0} (a : Meaning V) (b : Meaning W) where
   abbrev pub plan_of : Network → List Road → ℕ → Plan
   plan_of n roads origin = swept n.places (take n.roads roads) origin
 
-  -- what a row of a sweep stands for: the trip along its sources, which has its values and its number of roads and visits no place twice;
-  -- it may stand where it does in a sheet whose reach is the number of places less one
+  -- what a row of a sweep stands for: the trip along its sources, which has its values and its number of roads and visits no place twice
   pub record StandsFor (n : Network) (roads : List Road) (origin : ℕ) (table : List (Row V W)) (k : ℕ) (r : Row V W) : Type 0 where
     pub uses : List Use
     pub stops : List ℕ
@@ -34,7 +33,6 @@ module _ {V W : Type 0} (a : Meaning V) (b : Meaning W) where
     pub short : r.roads < n.places
     pub first : a.passes r.roads r.first
     pub second : b.passes r.roads r.second
-    pub lawful : LawfulRow a b n.places n.roads table (n.places - 1) k r
 
   -- an accepted sweep left count rows in the front of the rows handed over, which stand behind `used` others in their table:
   -- at each place they are the page of the plan, and each stands for its trip
@@ -64,3 +62,8 @@ module _ {V W : Type 0} (a : Meaning V) (b : Meaning W) where
   abbrev pub Swept : Network → List Road → ℕ → ℕ → ℕ → Result ℕ SweepFault → List (Row V W) → Type 0
   Swept n roads used free origin (Ok count) rows = Fitting n roads used free × (origin < n.places) × Accepted n roads used origin count rows
   Swept n roads used free origin (Err f) rows = Declined n roads used free origin f
+
+  -- the first count rows that a sweep left, which stand behind `used` others in their table, may stand where they do, in a sheet whose
+  -- reach is the number of places less one
+  pub record MayStand (n : Network) (used count : ℕ) (rows : List (Row V W)) : Type 0 where
+    pub each : (front : List (Row V W)) → length front ≡ used → (k : ℕ) (r : Row V W) → RowAt (take count rows) k r → LawfulRow a b n.places n.roads (front ++ take count rows) (n.places - 1) (used + k) r

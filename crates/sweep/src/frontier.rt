@@ -1,8 +1,9 @@
-ghost use Rattle.std.specs.Prelude.{◌≡◌, ℕ, ◌+◌, ◌<◌, ◌≤◌, true, false, length, take, replicate, Some, None, MatchBool, slice_index_or, slice_set};
+ghost use Rattle.std.specs.Prelude.{◌≡◌, ℕ, ◌+◌, ◌<◌, ◌≤◌, true, false, length, take, replicate, Some, None, IfSome, MatchBool, slice_index_or, slice_set};
 ghost use Rattle.criteria.specs.Meaning.{Strict, Laws};
 ghost use Rattle.growth.specs.Complete.{EmptyRow};
+ghost use Rattle.growth.specs.Sourced.{Sourced};
 ghost use Rattle.frontier.specs.Frontiers.{Built, Passing, Tested, Linked, Shown, Weighed, Outdone, Foremost, Standing, Follows, Tried, Held, Enters, Kept, Sized, Newest, Renewed, Older, Ready, Chosen, Searching, Searched, Founded};
-ghost use Rattle.sweep.specs.Steps.{Advanced};
+ghost use Rattle.sweep.specs.Steps.{Advanced, SourcedAfter};
 
 use crate::ahead;
 use criteria::{Comparison, Criterion};
@@ -413,7 +414,8 @@ fn advance<A: Criterion, B: Criterion>(
     requires searching { (origin : ℕ) × Searching (A.Criterion.meaning a.now) (B.Criterion.meaning b.now) roads.now places origin base (take n rows.old) frontier.old.found frontier.old.best frontier.old.last frontier.old.prev }
     requires within { n ≤ length rows.old }
     requires room { base + length rows.old ≤ 65536 }
-    ensures { (origin : ℕ) → Searching (A.Criterion.meaning a.now) (B.Criterion.meaning b.now) roads.now places origin base (take n rows.old) frontier.old.found frontier.old.best frontier.old.last frontier.old.prev → Advanced (A.Criterion.meaning a.now) (B.Criterion.meaning b.now) roads.now places origin base n rows.old rows.new frontier.new.found frontier.new.best frontier.new.last frontier.new.prev result }
+    ensures advanced { (origin : ℕ) → Searching (A.Criterion.meaning a.now) (B.Criterion.meaning b.now) roads.now places origin base (take n rows.old) frontier.old.found frontier.old.best frontier.old.last frontier.old.prev → Advanced (A.Criterion.meaning a.now) (B.Criterion.meaning b.now) roads.now places origin base n rows.old rows.new frontier.new.found frontier.new.best frontier.new.last frontier.new.prev result }
+    ensures sourced { (origin : ℕ) → Searching (A.Criterion.meaning a.now) (B.Criterion.meaning b.now) roads.now places origin base (take n rows.old) frontier.old.found frontier.old.best frontier.old.last frontier.old.prev → Sourced (length roads.now) base (take n rows.old) → SourcedAfter (length roads.now) base n rows.new result }
 {
     let Some(place) = pick(a, b, frontier, places) else {
         return Step::Finished;
@@ -440,7 +442,8 @@ fn climb<A: Criterion, B: Criterion>(
     requires searching { (origin : ℕ) × Searching (A.Criterion.meaning a.now) (B.Criterion.meaning b.now) roads.now places origin base (take 1 rows.old) frontier.old.found frontier.old.best frontier.old.last frontier.old.prev }
     requires some { 1 ≤ length rows.old }
     requires room { base + length rows.old ≤ 65536 }
-    ensures { (origin : ℕ) → Searching (A.Criterion.meaning a.now) (B.Criterion.meaning b.now) roads.now places origin base (take 1 rows.old) frontier.old.found frontier.old.best frontier.old.last frontier.old.prev → Searched (A.Criterion.meaning a.now) (B.Criterion.meaning b.now) roads.now places origin base rows.new result }
+    ensures searched { (origin : ℕ) → Searching (A.Criterion.meaning a.now) (B.Criterion.meaning b.now) roads.now places origin base (take 1 rows.old) frontier.old.found frontier.old.best frontier.old.last frontier.old.prev → Searched (A.Criterion.meaning a.now) (B.Criterion.meaning b.now) roads.now places origin base rows.new result }
+    ensures sourced { (origin : ℕ) → Searching (A.Criterion.meaning a.now) (B.Criterion.meaning b.now) roads.now places origin base (take 1 rows.old) frontier.old.found frontier.old.best frontier.old.last frontier.old.prev → Sourced (length roads.now) base (take 1 rows.old) → IfSome result (λ count. Sourced (length roads.now) base (take count rows.new)) }
 {
     let mut n = 1;
     loop {
@@ -482,7 +485,8 @@ fn begin<A: Criterion, B: Criterion>(
     requires best { length frontier.old.best ≡ 2048 }
     requires last { frontier.old.last ≡ replicate 2048 None }
     requires prev { length frontier.old.prev ≡ 65536 }
-    ensures { Searching (A.Criterion.meaning a.now) (B.Criterion.meaning b.now) roads.now places origin base (take 1 rows.new) frontier.new.found frontier.new.best frontier.new.last frontier.new.prev }
+    ensures stands { Searching (A.Criterion.meaning a.now) (B.Criterion.meaning b.now) roads.now places origin base (take 1 rows.new) frontier.new.found frontier.new.best frontier.new.last frontier.new.prev }
+    ensures sourced { Sourced (length roads.now) base (take 1 rows.new) }
 {
     rows[0] = empty_row(a, b, origin);
     link(frontier, origin, 0);
@@ -511,7 +515,8 @@ pub(crate) fn grow<A: Criterion, B: Criterion>(
     origin: u32,
 ) -> Option<u32>
     requires { Founded (A.Criterion.meaning a.now) (B.Criterion.meaning b.now) roads.now places origin base (length rows.old) }
-    ensures { Searched (A.Criterion.meaning a.now) (B.Criterion.meaning b.now) roads.now places origin base rows.new result }
+    ensures searched { Searched (A.Criterion.meaning a.now) (B.Criterion.meaning b.now) roads.now places origin base rows.new result }
+    ensures sourced { IfSome result (λ count. Sourced (length roads.now) base (take count rows.new)) }
 {
     if is_full(0, rows.len()) {
         return None;

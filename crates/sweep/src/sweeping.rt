@@ -1,5 +1,5 @@
-ghost use Rattle.std.specs.Prelude.{◌+◌, ◌<◌, ◌≤◌, length, MatchBool};
-ghost use Rattle.sweep.specs.Sweeps.{Swept};
+ghost use Rattle.std.specs.Prelude.{◌+◌, ◌<◌, ◌≤◌, length, IfOk, MatchBool};
+ghost use Rattle.sweep.specs.Sweeps.{Swept, MayStand};
 
 use crate::Frontier;
 use crate::frontier::grow;
@@ -40,7 +40,8 @@ pub fn sweep<A: Criterion, B: Criterion>(
     used: u32,
     origin: u32,
 ) -> Result<u32, SweepFault>
-    ensures { Swept (A.Criterion.meaning a.now) (B.Criterion.meaning b.now) network.now roads.now used (length free.old) origin result free.new }
+    ensures swept { Swept (A.Criterion.meaning a.now) (B.Criterion.meaning b.now) network.now roads.now used (length free.old) origin result free.new }
+    ensures lawful { IfOk result (λ count. MayStand (A.Criterion.meaning a.now) (B.Criterion.meaning b.now) network.now used count free.new) }
 {
     laws_stand(a);
     laws_stand(b);

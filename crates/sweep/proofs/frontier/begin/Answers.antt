@@ -1,5 +1,7 @@
-use Rattle.std.proofs.Common.{ℕ, false, [], ◌∷◌, length, get_or, take, set, replicate, Some, None, Option, refl, ap, ◌∙◌, arith, length-set, rules}
+use Rattle.std.proofs.Common.{ℕ, false, [], ◌∷◌, length, get_or, take, set, replicate, Some, None, Option, sym, refl, subst, ap, ◌∙◌, arith, length-set, rules}
 use Rattle.std.proofs.lemmas.List.{take_more_set, length-replicate}
+use Rattle.growth.specs.Sourced.{Sourced}
+use Rattle.growth.proofs.Sources.{sourced_first}
 use Rattle.frontier.proofs.Begins.{begin_forward}
 use Rattle.frontier.proofs.Steps.{Forward, forward_same, stands_again}
 use Rattle.sweep.proofs.frontier.begin.Given as given
@@ -22,11 +24,16 @@ renew_front-requires g c =
     let r = (forward g l).renewable in
     (search rules, (omega (arith, length-set c.args.rows.now 0 c.empty_row.result, c.requires.some), (r.standing, (r.linked, (r.sized, (r.added, r.older))))))
 
-pub returns : goal.returns
-returns g c =
+pub returns-clause-stands : goal.returns-clause-stands
+returns-clause-stands g c =
     let after = c.renew_front.ensures in
     let linked = c.link.ensures in
-    stands_again (g.A.Criterion.meaning c.args.a.now) (g.B.Criterion.meaning c.args.b.now) c.args.roads.now c.args.places c.args.origin c.args.base (forward g (goal.at.returns g c).After-link) after.last after.prev
+    stands_again (g.A.Criterion.meaning c.args.a.now) (g.B.Criterion.meaning c.args.b.now) c.args.roads.now c.args.places c.args.origin c.args.base (forward g (goal.at.returns-clause-stands g c).After-link) after.last after.prev
     (ap length linked.last ∙ length-set c.args.frontier.now.last c.args.origin (Some 0) ∙ ap length c.requires.last ∙ length-replicate {A = Option ℕ} 2048 None)
     (ap length linked.prev ∙ length-set c.args.frontier.now.prev 0 (get_or c.args.frontier.now.last c.args.origin None) ∙ c.requires.prev)
     after.sized after.ready
+
+pub returns-clause-sourced : goal.returns-clause-sourced
+returns-clause-sourced g c =
+    let x = c.empty_row.result in
+    subst (Sourced (length c.args.roads.now) c.args.base) (sym (take_more_set c.args.rows.now 0 x c.requires.some)) (sourced_first (g.A.Criterion.meaning c.args.a.now) (g.B.Criterion.meaning c.args.b.now) (length c.args.roads.now) c.args.base c.args.origin x c.empty_row.ensures)

@@ -15,7 +15,10 @@ begin-requires g c =
 pub climb-requires : goal.climb-requires
 climb-requires g c =
     let s = some g (goal.at.climb-requires g c).Else-is_full in
-    (search rules, ((c.args.origin, c.begin.ensures), (omega (arith, s, c.begin.auto.rows), omega (arith, c.requires.fits, c.begin.auto.rows))))
+    (search rules, ((c.args.origin, c.begin.ensures.stands), (omega (arith, s, c.begin.auto.rows), omega (arith, c.requires.fits, c.begin.auto.rows))))
 
-pub returns : goal.returns
-returns g c = c.climb.ensures c.args.origin c.begin.ensures
+pub returns-clause-searched : goal.returns-clause-searched
+returns-clause-searched g c = c.climb.ensures.searched c.args.origin c.begin.ensures.stands
+
+pub returns-clause-sourced : goal.returns-clause-sourced
+returns-clause-sourced g c = c.climb.ensures.sourced c.args.origin c.begin.ensures.stands c.begin.ensures.sourced
