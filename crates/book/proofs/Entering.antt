@@ -38,8 +38,11 @@ stands_more a b n roads origin t xs k r low h = record {
   short = h.short;
   first = h.first;
   second = h.second;
-  lawful = record { fits = h.lawful.fits; made = made_more n.roads t xs k r.roads r.source low h.lawful.made };
 }
+
+-- and may stand where it does
+lawful_more : {V W : Type 0} (a : Meaning V) (b : Meaning W) (places roads : ℕ) (t xs : List (Row V W)) (reach k : ℕ) (r : Row V W) → k ≤ length t → LawfulRow a b places roads t reach k r → LawfulRow a b places roads (t ++ xs) reach k r
+lawful_more a b places roads t xs reach k r low h = record { fits = h.fits; made = made_more roads t xs k r.roads r.source low h.made }
 
 module _ {A B V W : Type 0} (a : Meaning V) (b : Meaning W) (k : Book A B) (roads : List Road) (rows rows' : List (Row V W)) (origin : ℕ) (served : Served a b k roads rows) (inside : origin < k.network.places) (few : k.count < 64) where
   -- the rows in use
@@ -87,12 +90,21 @@ module _ {A B V W : Type 0} (a : Meaning V) (b : Meaning W) (k : Book A B) (road
         ap (λ l. front ++ l) (append_assoc (take count f.free) (drop count f.free) f.rest) ∙
         sym (append_assoc front (take count f.free) (drop count f.free ++ f.rest))
 
+    -- which stand before those that were lent in vain
+    behind : (i : ℕ) (r : Row V W) → RowAt (take count f.free) i r → k.used + i ≤ length (front ++ take count f.free)
+    behind i r at = omega (arith, at.0, length-append front (take count f.free), front_long)
+
     -- each of them stands for its trip
     each : (i : ℕ) (r : Row V W) → RowAt (rows_of s rows') i r → StandsFor a b k.network roads origin rows' (k.used + i) r
     each i r at =
         let at' = subst (λ l. RowAt l i r) part_is at in
-        let within : k.used + i ≤ length (front ++ take count f.free) = omega (arith, at'.0, length-append front (take count f.free), front_long) in
-        subst (λ t. StandsFor a b k.network roads origin t (k.used + i) r) (sym table_is) (stands_more a b k.network roads origin (front ++ take count f.free) (drop count f.free ++ f.rest) (k.used + i) r within (f.swept.2.each front front_long i r at'))
+        subst (λ t. StandsFor a b k.network roads origin t (k.used + i) r) (sym table_is) (stands_more a b k.network roads origin (front ++ take count f.free) (drop count f.free ++ f.rest) (k.used + i) r (behind i r at') (f.swept.2.each front front_long i r at'))
+
+    -- and may stand where it does
+    lawful : (i : ℕ) (r : Row V W) → RowAt (rows_of s rows') i r → LawfulRow a b k.network.places k.network.roads rows' (k.network.places - 1) (k.used + i) r
+    lawful i r at =
+        let at' = subst (λ l. RowAt l i r) part_is at in
+        subst (λ t. LawfulRow a b k.network.places k.network.roads t (k.network.places - 1) (k.used + i) r) (sym table_is) (lawful_more a b k.network.places k.network.roads (front ++ take count f.free) (drop count f.free ++ f.rest) (k.network.places - 1) (k.used + i) r (behind i r at') (f.lawful.each front front_long i r at'))
 
     -- so the new sheet is sound
     new_sound : SheetSound a b k.network.places k.network.roads rows' s
@@ -105,7 +117,7 @@ module _ {A B V W : Type 0} (a : Meaning V) (b : Meaning W) (k : Book A B) (road
             simp (length-take, length-drop) (omega arith),
             λ d. get_or-take count (drop k.used rows') i d short ∙ get_or-drop k.used rows' i d ∙ ap (λ m. get_or rows' m d) same ∙ is d,
           ) in
-          subst (λ m. LawfulRow a b k.network.places k.network.roads rows' (k.network.places - 1) m r) same (each i r at).lawful;
+          subst (λ m. LawfulRow a b k.network.places k.network.roads rows' (k.network.places - 1) m r) same (lawful i r at);
     }
 
     -- and all sheets are

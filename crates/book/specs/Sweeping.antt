@@ -1,12 +1,12 @@
 -- What a sweep of a book answers, and what it leaves.
-use Rattle.std.specs.Prelude.{◌≡◌, ℕ, ◌+◌, ◌-◌, ◌<◌, ◌≤◌, min, List, ◌++◌, map, length, take, Ok, Err, Result, slice_set}
+use Rattle.std.specs.Prelude.{◌≡◌, ℕ, ◌+◌, ◌-◌, ◌<◌, ◌≤◌, min, List, ◌++◌, map, length, take, Ok, Err, IfOk, Result, slice_set}
 use Rattle.criteria.specs.Meaning.{Meaning}
 use Rattle.roads.specs.Networks as network
 use Rattle.roads.specs.declared.road.Road.{Road}
 use Rattle.rows.specs.declared.row.Row.{Row}
 use Rattle.rows.specs.declared.sheet.Sheet.{Sheet}
 use Rattle.rows.specs.Places.{RowAt, pair_of, rows_of}
-use Rattle.sweep.specs.Sweeps.{plan_of, Crowded, StandsFor, Swept}
+use Rattle.sweep.specs.Sweeps.{plan_of, Crowded, MayStand, StandsFor, Swept}
 use Rattle.sweep.specs.declared.sweeping.SweepFault.{SweepFault}
 use Rattle.trips.specs.Pages.{Page, Rows}
 use Rattle.book.specs.declared.added.Added.{Added}
@@ -54,6 +54,7 @@ module _ {A B V W : Type 0} (a : Meaning V) (b : Meaning W) where
     pub long : length free ≡ unused k rows
     pub table : rows' ≡ take k.used rows ++ (free ++ rest)
     pub swept : Swept a b k.network roads k.used (unused k rows) origin r free
+    pub lawful : IfOk r (λ count. MayStand a b k.network k.used count free)
 
   -- an accepted sweep from an origin: the book k became k' and the row table rows became rows'
   pub record Entered (k k' : Book A B) (roads : List Road) (rows rows' : List (Row V W)) (origin : ℕ) (added : Added) : Type 0 where

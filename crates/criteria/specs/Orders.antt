@@ -1,5 +1,5 @@
 -- What follows of strictly better.
-use Rattle.std.specs.Prelude.{◌≡◌, ◌≢◌}
+use Rattle.std.specs.Prelude.{◌≢◌}
 use Rattle.std.proofs.Common.{sym, subst}
 use Rattle.criteria.specs.Meaning.{Meaning, Strict, Order}
 

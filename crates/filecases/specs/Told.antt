@@ -1,5 +1,5 @@
 -- What the printed lines tell of records, roads and layers.
-use Rattle.std.specs.Prelude.{◌≡◌, ℕ, ◌+◌, ◌*◌, true, false, cond, List, [], ◌∷◌, length, codes, slice_index}
+use Rattle.std.specs.Prelude.{ℕ, ◌+◌, ◌*◌, false, cond, List, [], ◌∷◌, length, codes, slice_index}
 use Rattle.roads.specs.declared.road.Road.{Road}
 use Rattle.roadfile.specs.declared.fault.Layer.{Layer}
 use Rattle.roadfile.specs.declared.fault.Layer.TheVariants as layer

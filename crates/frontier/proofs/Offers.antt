@@ -132,10 +132,6 @@ module _ {V W : Type 0} (a : Meaning V) (b : Meaning W) where
   pub ends_low : (roads : List Road) (base : ℕ) (rs : List (Row V W)) (j from number : ℕ) (p : Row V W) (r : Road) (q : Row V W) → Standing a b roads base rs → Numbered roads j r → Built a b p r from number q → q.end < 2048
   ends_low roads base rs j from number p r q s n w = omega (arith, (s.named j r n).ends, s.small, w.ends)
 
-  -- a road that was read starts at one of the places
-  pub starts_low : (roads : List Road) (base : ℕ) (rs : List (Row V W)) (j : ℕ) → Standing a b roads base rs → j < length roads → (d : Road) → (get_or roads j d).start < 2048
-  starts_low roads base rs j s low d = omega (arith, (s.named j (get_or roads j d) (road_read roads j d low)).starts, s.small)
-
   -- an offer keeps the lengths
   pub weighed_lengths : (rs : List (Row V W)) (q : Row V W) (o : Option ℕ) (found : List Bool) (best : List (Row V W)) (found' : List Bool) (best' : List (Row V W)) → Weighed a b rs q o found best found' best' → (length found' ≡ length found) × (length best' ≡ length best)
   weighed_lengths rs q o found best found' best' (shadowed ef eb s) = (ap length ef, ap length eb)

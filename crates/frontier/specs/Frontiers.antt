@@ -1,5 +1,5 @@
 -- What the frontier of a sweep holds, place by place.
-use Rattle.std.specs.Prelude.{◌≡◌, ℕ, ◌+◌, ◌<◌, ◌≤◌, Bool, true, false, ◌⊎◌, List, length, get_or, take, replicate, Some, None, MatchBool, Option, ◌≢◌, slice_index_or, slice_set}
+use Rattle.std.specs.Prelude.{◌≡◌, ℕ, ◌+◌, ◌<◌, ◌≤◌, Bool, true, false, ◌⊎◌, List, length, get_or, take, Some, None, MatchBool, Option, ◌≢◌, slice_index_or, slice_set}
 use Rattle.criteria.specs.Meaning.{Meaning, Strict, Laws}
 use Rattle.roads.specs.Tables.{Within}
 use Rattle.roads.specs.declared.road.Road.{Road}
@@ -30,18 +30,6 @@ module _ {V W : Type 0} where
   pub record Sized (found : List Bool) (best : List (Row V W)) : Type 0 where
     pub flags : length found ≡ 2048
     pub rows : length best ≡ 2048
-
-  -- the row q ends at a place, and the rows are linked
-  pub record Placed (rs : List (Row V W)) (last prev : List (Option ℕ)) (q : Row V W) : Type 0 where
-    pub end : q.end < 2048
-    pub linked : Linked rs last prev
-
-  -- nothing is held, and no row is linked
-  pub record Blank (found : List Bool) (best : List (Row V W)) (last prev : List (Option ℕ)) : Type 0 where
-    pub flags : found ≡ replicate 2048 false
-    pub rows : length best ≡ 2048
-    pub links : last ≡ replicate 2048 None
-    pub before : length prev ≡ 65536
 
 module _ {V W : Type 0} (a : Meaning V) (b : Meaning W) where
   -- r is the row p with the road q behind it; from and number are what its source names
@@ -115,24 +103,9 @@ module _ {V W : Type 0} (a : Meaning V) (b : Meaning W) where
     pub road : j < length roads
     pub meets : (p : Row V W) (r : Road) → RowAt rs i p → Numbered roads j r → (r.«open» ≡ true) × (r.start ≡ p.end)
 
-  -- linked rows of a sweep, and a road j that may be driven behind row i
-  pub record Trying (roads : List Road) (base : ℕ) (rs : List (Row V W)) (last prev : List (Option ℕ)) (i j : ℕ) : Type 0 where
-    pub standing : Standing roads base rs
-    pub linked : Linked rs last prev
-    pub follows : Follows roads rs i j
-
   -- road j is open and ends at the place
   abbrev pub Enters : List Road → ℕ → ℕ → Type 0
   Enters roads j place = (j < length roads) × ((r : Road) → Numbered roads j r → (r.«open» ≡ true) × (r.end ≡ place))
-
-  -- linked rows of a sweep, and a road j that ends at the place, which holds the best of the extensions by the roads before it
-  pub record Entering (roads : List Road) (base : ℕ) (rs : List (Row V W)) (last prev : List (Option ℕ)) (found : List Bool) (best : List (Row V W)) (j place : ℕ) : Type 0 where
-    pub standing : Standing roads base rs
-    pub linked : Linked rs last prev
-    pub enters : Enters roads j place
-    pub starts : (d : Road) → (get_or roads j d).start < 2048
-    pub sized : Sized found best
-    pub held : Held roads base rs found best (λ _ k. k < j) place
 
   -- all places but one hold what they held
   pub record Kept (place : ℕ) (found : List Bool) (best : List (Row V W)) (found' : List Bool) (best' : List (Row V W)) : Type 0 where
@@ -193,12 +166,6 @@ module _ {V W : Type 0} (a : Meaning V) (b : Meaning W) where
     pub lasts : length last ≡ 2048
     pub prevs : length prev ≡ 65536
 
-  -- a sweep that stands with the first n rows of a table, which ends at the 65,536th row at the latest
-  pub record Advancing (roads : List Road) (places base n : ℕ) (table : List (Row V W)) (found : List Bool) (best : List (Row V W)) (last prev : List (Option ℕ)) : Type 0 where
-    pub stands : (origin : ℕ) × Searching roads places origin base (take n table) found best last prev
-    pub within : n ≤ length table
-    pub room : base + length table ≤ 65536
-
   -- what a sweep from an origin needs to know: the criteria keep their laws, and the network is within its bounds
   pub record Founded (roads : List Road) (places origin base room : ℕ) : Type 0 where
     pub first_laws : Laws a
@@ -208,12 +175,6 @@ module _ {V W : Type 0} (a : Meaning V) (b : Meaning W) where
     pub small : places ≤ 2048
     pub counted : length roads ≤ 16384
     pub fits : base + room ≤ 65536
-
-  -- a sweep that can begin: there is room for a row, and nothing is held yet
-  pub record Beginning (roads : List Road) (places origin base room : ℕ) (found : List Bool) (best : List (Row V W)) (last prev : List (Option ℕ)) : Type 0 where
-    pub founded : Founded roads places origin base room
-    pub some : 1 ≤ room
-    pub blank : Blank found best last prev
 
   -- rows of a sweep from that origin over those places
   pub record Grew (roads : List Road) (places origin base : ℕ) (rs : List (Row V W)) : Type 0 where

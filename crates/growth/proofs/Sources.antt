@@ -6,7 +6,7 @@ use Rattle.rows.specs.declared.row.Row.{Row}
 use Rattle.rows.specs.Places.{RowAt}
 use Rattle.rows.specs.Sound.{Made}
 use Rattle.growth.specs.Complete.{EmptyRow}
-use Rattle.growth.specs.Growing.{Extends, Next}
+use Rattle.growth.specs.Growing.{Next}
 use Rattle.growth.specs.Sourced.{Sourced}
 use Rattle.growth.proofs.Tables.{at_left, at_behind, at_one, at_push, made_more}
 

@@ -1,10 +1,10 @@
 -- A reader hands out the file, record by record.
-use Rattle.std.proofs.Common.{◌≡◌, ℕ, zero, suc, ◌+◌, ◌-◌, ◌<◌, List, [], ◌∷◌, ◌++◌, length, get_or, take, Ok, sym, refl, ap, ◌∙◌, subst, append_assoc, append-nil, arith, length-append}
+use Rattle.std.proofs.Common.{◌≡◌, ℕ, zero, suc, ◌<◌, List, [], ◌∷◌, ◌++◌, length, get_or, take, sym, refl, ap, ◌∙◌, append_assoc, append-nil, arith, length-append}
 use Rattle.roadfile.specs.declared.reader.Item.{Item}
 use Rattle.roadfile.specs.declared.reader.Reader.{Reader}
 use Rattle.roadfile.specs.Format.{entry, header, written}
-use Rattle.roadfile.specs.Reading.{Opened, left_of, offset_of}
-use Rattle.roadfile.specs.Runs.{Run, none, more, written_all, Faithful, ReadingIsFaithful}
+use Rattle.roadfile.specs.Reading.{left_of, offset_of}
+use Rattle.roadfile.specs.Runs.{Run, none, more, written_all, ReadingIsFaithful}
 
 -- the same, of a reader that stands behind the bytes `front` of the file
 record From (file front : List ℕ) (is : List Item) (t : Reader) : Type 0 where

@@ -1,8 +1,8 @@
 -- One record more is added to a draft, or refused.
-use Rattle.std.proofs.Common.{◌≡◌, ℕ, suc, ◌+◌, ◌-◌, ◌<◌, ◌≤◌, true, false, ◌⊎◌, List, [], ◌∷◌, ◌++◌, length, get_or, take, drop, set, Ok, Err, Result, sym, refl, ap, ◌∙◌, subst, inl, inr, ⊎_elim, append_assoc, append-nil, arith, length-append, length-drop, length-set, get_or-set_other, get_or-set_same}
-use Rattle.std.specs.List.{flat_map, AllByRecursion}
+use Rattle.std.proofs.Common.{◌≡◌, ℕ, ◌+◌, ◌<◌, ◌≤◌, true, false, List, [], ◌∷◌, ◌++◌, length, get_or, take, drop, set, Ok, Err, Result, sym, refl, ap, ◌∙◌, subst, inl, inr, ⊎_elim, append_assoc, append-nil, arith, length-set, get_or-set_other, get_or-set_same}
+use Rattle.std.specs.List.{flat_map}
 use Rattle.std.proofs.slice.Lists.{all_by_recursion_push}
-use Rattle.std.proofs.lemmas.List.{drop_more, set_at, flat_map_more, take-append-le, get_or_append_left, get_or_push, length_push, take_all, take_at, get_or_default}
+use Rattle.std.proofs.lemmas.List.{drop_more, set_at, flat_map_more, take-append-le, get_or_append_left, get_or_push, length_push, take_at}
 use Rattle.std.proofs.lemmas.Bool.{cases_lt}
 use Rattle.roads.specs.Drafts.{Placed, Laid, LayingRefused}
 use Rattle.roads.specs.Tables.{Serves, Within}
@@ -13,7 +13,7 @@ use Rattle.roads.specs.declared.road.Road.{Road}
 use Rattle.roadfile.specs.declared.fault.FileFault.{FileFault}
 use Rattle.roadfile.specs.declared.fault.FileFault.TheVariants as fault
 use Rattle.roadfile.specs.Format.{Entry, place, road, remark, finish, header, written, ends, Proper}
-use Rattle.roadfile.specs.Loading.{places_of, roads_of, count_of, Addable, Refused, carried, Added, Fills, Stops}
+use Rattle.roadfile.specs.Loading.{places_of, roads_of, count_of, Addable, carried, Added, Fills, Stops}
 use Rattle.roadfile.specs.Reading.{Leads}
 
 -- the places that entries add, and others behind them

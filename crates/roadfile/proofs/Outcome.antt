@@ -1,5 +1,5 @@
 -- A file over a road table has one outcome.
-use Rattle.std.proofs.Common.{◌≡◌, ℕ, zero, suc, ◌+◌, ◌-◌, ◌<◌, ◌≤◌, Bool, true, false, ◌⊎◌, List, [], ◌∷◌, ◌++◌, length, get_or, take, drop, Ok, Err, Result, sym, refl, ap, ◌∙◌, subst, inl, inr, ⊎_elim, append_assoc, append-nil, arith, length-append}
+use Rattle.std.proofs.Common.{◌≡◌, ℕ, suc, ◌+◌, ◌<◌, ◌≤◌, false, ◌⊎◌, List, [], ◌∷◌, ◌++◌, length, get_or, take, drop, Ok, Err, Result, sym, refl, ap, ◌∙◌, subst, inl, inr, ⊎_elim, append_assoc, arith, length-append}
 use Rattle.std.specs.List.{flat_map, AllByRecursion}
 use Rattle.std.proofs.lemmas.List.{take_at, drop_at, get_or_at, append_cancel_left}
 use Rattle.roads.specs.declared.fault.DraftFault.{DraftFault}
@@ -8,10 +8,9 @@ use Rattle.roads.specs.declared.network.Network.{Network}
 use Rattle.roads.specs.declared.road.Road.{Road}
 use Rattle.roadfile.specs.declared.fault.FileFault.{FileFault}
 use Rattle.roadfile.specs.declared.fault.FileFault.TheVariants as fault
-use Rattle.roadfile.specs.declared.fault.LoadFault.{LoadFault}
 use Rattle.roadfile.specs.Format.{Entry, place, road, remark, finish, letters, header, kind, body, written, ends, Proper, Allowed, Short, Odd}
-use Rattle.roadfile.specs.Loading.{places_of, roads_of, count_of, Addable, Refused, Fills, Stops, place_of, Broken, Whole, Loaded}
-use Rattle.roadfile.specs.Outcome.{Same, OneOutcome}
+use Rattle.roadfile.specs.Loading.{places_of, roads_of, count_of, Addable, Refused, Fills, Stops, place_of, Broken, Whole}
+use Rattle.roadfile.specs.Outcome.{OneOutcome}
 use Rattle.roadfile.specs.Reading.{Leads, Unopened}
 use Rattle.roadfile.proofs.Records.{road_length}
 use Rattle.roadfile.proofs.Unique.{same_first}

@@ -1,5 +1,5 @@
 -- How far a loading has come, and what each way out of it shows.
-use Rattle.std.proofs.Common.{◌≡◌, ℕ, ◌+◌, ◌-◌, ◌<◌, ◌≤◌, Bool, true, false, List, [], ◌∷◌, ◌++◌, map, length, take, drop, Some, None, Ok, Err, sym, refl, ap, ◌∙◌, subst, arith, length-append, length-drop}
+use Rattle.std.proofs.Common.{◌≡◌, ℕ, ◌+◌, ◌-◌, ◌<◌, Bool, true, false, List, [], ◌∷◌, ◌++◌, map, length, take, drop, Some, Ok, Err, sym, refl, ap, ◌∙◌, subst, arith, length-append, length-drop}
 use Rattle.std.specs.List.{flat_map}
 use Rattle.std.proofs.lemmas.List.{take_at, drop_at}
 use Rattle.roads.specs.Drafts.{Closed}
@@ -12,7 +12,7 @@ use Rattle.roadfile.specs.declared.fault.LoadFault.{LoadFault}
 use Rattle.roadfile.specs.declared.reader.Reader.{Reader}
 use Rattle.roadfile.specs.declared.reader.Item.{Item}
 use Rattle.roadfile.specs.Format.{Entry, place, road, remark, finish, entry, header, written, ends}
-use Rattle.roadfile.specs.Loading.{places_of, roads_of, count_of, Added, Fills, Stops, place_of, Broken, Whole}
+use Rattle.roadfile.specs.Loading.{roads_of, count_of, Added, Fills, Stops, place_of, Broken, Whole}
 use Rattle.roadfile.specs.Reading.{Leads, left_of, offset_of, Opened, Handed, Ended}
 use Rattle.roadfile.proofs.Records.{leads_length}
 use Rattle.roadfile.proofs.Filling.{Drafted, adds, refuses, drafts_fault, fills_more}

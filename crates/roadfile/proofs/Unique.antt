@@ -1,9 +1,8 @@
 -- No record's written form begins another's.
-use Rattle.std.proofs.Common.{◌≡◌, ℕ, zero, suc, ◌+◌, ◌/◌, ◌%◌, ◌^◌, ◌<◌, ◌≤◌, ◌⊎◌, List, [], ◌∷◌, ◌++◌, length, get_or, take, drop, sym, refl, ap, ◌∙◌, subst, inl, inr, ⊎_elim, append_assoc, arith}
+use Rattle.std.proofs.Common.{◌≡◌, ℕ, ◌/◌, ◌%◌, ◌^◌, ◌<◌, List, [], ◌∷◌, ◌++◌, length, take, drop, sym, refl, ap, ◌∙◌, arith}
 use Rattle.std.specs.List.{flat_map, AllByRecursion}
-use Rattle.std.proofs.lemmas.List.{take_at, drop_at, append_cancel_left}
-use Rattle.roadfile.specs.Format.{Entry, place, road, remark, finish, little, kind, body, written, Proper, Allowed, Short, Odd}
-use Rattle.roadfile.specs.Reading.{Leads}
+use Rattle.std.proofs.lemmas.List.{take_at, drop_at}
+use Rattle.roadfile.specs.Format.{Entry, place, road, remark, finish, little, kind, body, written, Proper}
 
 -- a number is known by its lowest byte and the rest
 byte_more : (m n : ℕ) → m % 256 ≡ n % 256 → m / 256 ≡ n / 256 → m ≡ n

@@ -1,6 +1,5 @@
 -- What the reader hands out.
-use Rattle.std.specs.Prelude.{◌≡◌, ℕ, ◌+◌, ◌-◌, ◌<◌, ◌≤◌, true, false, ◌⊎◌, List, [], ◌∷◌, ◌++◌, length, take, drop, Some, None, Ok, Err, Option, Result, ◌≢◌}
-use Rattle.std.specs.List.{flat_map}
+use Rattle.std.specs.Prelude.{◌≡◌, ℕ, ◌-◌, ◌<◌, ◌≤◌, true, false, ◌⊎◌, List, [], ◌++◌, length, take, drop, Some, None, Ok, Err, Option, Result, ◌≢◌}
 use Rattle.roadfile.specs.declared.fault.FileFault.{FileFault}
 use Rattle.roadfile.specs.declared.fault.FileFault.TheVariants.{Letters, Version, Cut, Form, Extra, Draft}
 use Rattle.roadfile.specs.declared.fault.LoadFault.{LoadFault}

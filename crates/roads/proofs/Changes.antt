@@ -1,5 +1,5 @@
 -- What a change of one road, and of the first roads one after the other, leaves in a table.
-use Rattle.std.proofs.Common.{◌≡◌, ℕ, ◌+◌, ◌<◌, ◌≤◌, true, false, List, [], ◌∷◌, ◌++◌, map, length, get_or, take, drop, set, sym, refl, ap, ◌∙◌, append_assoc, arith}
+use Rattle.std.proofs.Common.{◌≡◌, ℕ, ◌+◌, ◌<◌, true, false, List, [], ◌∷◌, ◌++◌, map, length, get_or, take, drop, set, sym, ap, ◌∙◌, append_assoc, arith}
 use lib.ListN.{length-map}
 use Rattle.std.proofs.lemmas.List.{drop_more, map_more, set_at, get_or_at, length-take-le, get_or_default}
 use Rattle.roads.specs.declared.road.Road.{Road}

@@ -1,12 +1,12 @@
 -- The rows that a check has passed, one by one.
-use Rattle.std.proofs.Common.{◌≡◌, ℕ, ◌+◌, ◌<◌, ◌≤◌, min, Bool, true, false, List, length, get_or, Decides, sym, refl, ap, ◌∙◌, subst, ⊎_elim, arith}
+use Rattle.std.proofs.Common.{◌≡◌, ℕ, ◌+◌, ◌<◌, ◌≤◌, min, Bool, false, List, length, get_or, Decides, sym, ap, ◌∙◌, subst, ⊎_elim, arith}
 use Rattle.std.proofs.lemmas.List.{get_or_default}
 use Rattle.std.proofs.lemmas.Bool.{cases_lt, true≢false, false≢true}
 use Rattle.criteria.specs.Meaning.{Meaning}
 use Rattle.rows.specs.declared.row.Row.{Row}
 use Rattle.rows.specs.declared.sheet.Sheet.{Sheet}
 use Rattle.rows.specs.Places.{RowAt}
-use Rattle.rows.specs.Sound.{LawfulRow, SheetSound, Sound}
+use Rattle.rows.specs.Sound.{LawfulRow, SheetSound}
 use Rattle.rows.proofs.Sources.{same_row}
 
 -- what the answer false decides

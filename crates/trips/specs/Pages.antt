@@ -1,5 +1,5 @@
 -- The rows of a sheet at a place, as pairs of values.
-use Rattle.std.specs.Prelude.{◌≡◌, ℕ, zero, suc, ◌+◌, ◌<◌, List, [], ◌∷◌, length, slice_index_or}
+use Rattle.std.specs.Prelude.{◌≡◌, ℕ, zero, suc, ◌+◌, ◌<◌, List, length, slice_index_or}
 use Rattle.criteria.specs.Covers.{Covers, Precedes}
 use Rattle.criteria.specs.Meaning.{Meaning}
 use Rattle.trips.specs.Plans.{Plan, Goes}

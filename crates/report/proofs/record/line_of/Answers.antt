@@ -1,4 +1,4 @@
-use Rattle.std.proofs.Common.{false, List, replicate, Ok, Err, inl, inr}
+use Rattle.std.proofs.Common.{false, replicate, Ok, Err, inr}
 use lib.ListN.{length-replicate}
 use Rattle.roads.specs.declared.road.Road.{Road}
 use Rattle.report.proofs.record.line_of.Goals as goal

@@ -1,4 +1,4 @@
-use Rattle.std.proofs.Common.{◌≡◌, true, [], Some, None, Ok, Err, sym, refl, ap, ◌∙◌, subst, inl, inr}
+use Rattle.std.proofs.Common.{◌≡◌, [], Some, None, Ok, Err, subst, inr}
 use Rattle.std.proofs.lemmas.Result.{err_from_is_err_and}
 use Rattle.roadfile.specs.Reading.{Handed, Ended, left_of}
 use Rattle.roadfile.proofs.Progress.{shrinks, start, more, refused, extra, whole}

@@ -1,4 +1,4 @@
-use Rattle.std.proofs.Common.{◌≡◌, true, get_or, set, ap, ◌∙◌, arith}
+use Rattle.std.proofs.Common.{true, get_or, set, ap, ◌∙◌, arith}
 use Rattle.roads.specs.Tables.{turned}
 use Rattle.roads.proofs.Changes.{opened_more, unread}
 use Rattle.roads.proofs.road.open_all.Goals as goal

@@ -1,4 +1,4 @@
-use Rattle.std.proofs.Common.{ℕ, ◌<◌, ◌≤◌, length, get_or}
+use Rattle.std.proofs.Common.{ℕ, ◌<◌, get_or}
 use Rattle.roads.specs.declared.road.Road.{Road}
 use Rattle.roads.specs.Tables.{Within}
 use Rattle.roads.proofs.road.serves.Given as goal

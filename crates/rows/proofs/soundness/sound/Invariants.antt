@@ -1,4 +1,4 @@
-use Rattle.std.proofs.Common.{ℕ, ◌<◌, length, get_or}
+use Rattle.std.proofs.Common.{ℕ, ◌<◌, get_or}
 use Rattle.rows.specs.declared.sheet.Sheet.{Sheet}
 use Rattle.rows.specs.Sound.{SheetSound}
 use Rattle.rows.proofs.soundness.sound.Given as goal

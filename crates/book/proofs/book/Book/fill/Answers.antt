@@ -17,5 +17,6 @@ returns g c =
       rest = _;
       long = c.sweep.auto.free ∙ long;
       table = refl;
-      swept = subst (λ n. Swept (g.A.Criterion.meaning c.args.self.now.first) (g.B.Criterion.meaning c.args.self.now.second) c.args.self.now.network c.args.roads.now c.args.self.now.used n c.args.origin c.sweep.result c.sweep.new.free) long c.sweep.ensures;
+      swept = subst (λ n. Swept (g.A.Criterion.meaning c.args.self.now.first) (g.B.Criterion.meaning c.args.self.now.second) c.args.self.now.network c.args.roads.now c.args.self.now.used n c.args.origin c.sweep.result c.sweep.new.free) long c.sweep.ensures.swept;
+      lawful = c.sweep.ensures.lawful;
     }

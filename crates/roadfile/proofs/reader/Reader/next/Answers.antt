@@ -1,4 +1,4 @@
-use Rattle.std.proofs.Common.{drop, refl, ap, ◌∙◌, arith, rules}
+use Rattle.std.proofs.Common.{drop, refl, ap, ◌∙◌, arith}
 use Rattle.std.proofs.lemmas.List.{take_rest}
 use Rattle.roadfile.proofs.Records.{leads_length}
 use Rattle.roadfile.proofs.reader.Reader.next.Goals as goal
