@@ -1,5 +1,5 @@
 -- What a sweep into the unused rows of a table makes of a book.
-use Rattle.std.proofs.Common.{◌≡◌, ℕ, ◌+◌, ◌-◌, ◌<◌, ◌≤◌, true, List, [], ◌∷◌, ◌++◌, map, length, get_or, take, drop, set, is_err, IsErrAnd, Ok, Err, Result, sym, refl, ap, ◌∙◌, subst, ⊎_elim, append_assoc, arith, length-append, length-drop, length-take}
+use Rattle.std.proofs.Common.{◌≡◌, ℕ, ◌+◌, ◌-◌, ◌<◌, ◌≤◌, true, List, [], ◌∷◌, ◌++◌, map, length, get_or, take, drop, is_err, IsErrAnd, Ok, Err, Result, sym, refl, ap, ◌∙◌, subst, ⊎_elim, append_assoc, arith, length-append, length-drop, length-take}
 use Rattle.std.proofs.lemmas.List.{get_or_append_left, get_or-drop, get_or_push, get_or-set_same, get_or-take, length_push, length-take-le, drop_at, take-append-drop, take-append-le, take_at, take_more_set}
 use Rattle.std.proofs.lemmas.Bool.{cases_lt, false≢true}
 use Rattle.criteria.specs.Meaning.{Meaning}
@@ -20,7 +20,7 @@ use Rattle.book.specs.declared.book.Book.{Book}
 use Rattle.book.specs.declared.fault.PlannerFault.{PlannerFault}
 use Rattle.book.specs.Faults.{told}
 use Rattle.book.specs.Reading.{Serving, sheet_of}
-use Rattle.book.specs.Sweeping.{Entered, Filled, OneMore, Served, SweepRefused, Sweeping, swept_sheet, unused}
+use Rattle.book.specs.Sweeping.{Entered, Filled, OneMore, Served, SweepRefused, Sweeping, swept_sheet}
 use Rattle.rows.proofs.Checks.{unread}
 use Rattle.book.proofs.Kept.{ends_within, sheet_kept}
 

@@ -1,5 +1,5 @@
 -- The sheets of a book stay sound where rows are written behind those in use.
-use Rattle.std.proofs.Common.{◌≡◌, ℕ, ◌+◌, ◌<◌, ◌≤◌, List, [], ◌∷◌, ◌++◌, length, get_or, take, drop, sym, refl, ap, ◌∙◌, subst, arith}
+use Rattle.std.proofs.Common.{◌≡◌, ℕ, ◌+◌, ◌<◌, ◌≤◌, List, [], ◌∷◌, length, get_or, take, drop, sym, ap, ◌∙◌, arith}
 use Rattle.std.proofs.lemmas.List.{get_or-take, take-append-drop, take-take, take_more}
 use Rattle.criteria.specs.Meaning.{Meaning}
 use Rattle.rows.specs.declared.row.Row.{Row}

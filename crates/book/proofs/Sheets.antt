@@ -1,5 +1,5 @@
 -- What a sheet more does to the sheets of a book.
-use Rattle.std.proofs.Common.{◌≡◌, ℕ, ◌+◌, ◌<◌, List, [], ◌∷◌, ◌++◌, length, get_or, take, set, sym, refl, ap, ◌∙◌, subst, ⊎_elim, add_assoc, zero-add, arith, get_or-set_other, get_or-set_same}
+use Rattle.std.proofs.Common.{◌≡◌, ℕ, ◌+◌, ◌<◌, List, [], ◌∷◌, ◌++◌, length, get_or, take, set, sym, ap, ◌∙◌, subst, ⊎_elim, add_assoc, zero-add, arith, get_or-set_other, get_or-set_same}
 use Rattle.std.proofs.lemmas.List.{take-set, take-set-le, take_more_set}
 use Rattle.std.proofs.lemmas.Bool.{cases_eq}
 use Rattle.rows.specs.declared.sheet.Sheet.{Sheet}

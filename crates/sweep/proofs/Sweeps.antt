@@ -1,20 +1,18 @@
 -- What a search in the unused part of a row table makes of the whole.
-use Rattle.std.proofs.Common.{◌≡◌, ℕ, ◌+◌, ◌<◌, ◌≤◌, ◌⊎◌, List, [], ◌∷◌, ◌++◌, map, length, take, replicate, sym, refl, ap, ◌∙◌, subst, inl, inr, ⊎_elim, arith}
+use Rattle.std.proofs.Common.{◌≡◌, ℕ, ◌+◌, ◌<◌, ◌≤◌, ◌⊎◌, List, ◌++◌, map, length, take, replicate, sym, ◌∙◌, subst, ⊎_elim, arith}
 use lib.ListN.{length-replicate}
 use Rattle.std.proofs.lemmas.List.{get_or-take, length-take-le}
 use Rattle.criteria.specs.Meaning.{Meaning, Laws}
 use Rattle.roads.specs.Networks.{Serving}
-use Rattle.roads.specs.Tables.{Within, Serves}
+use Rattle.roads.specs.Tables.{Within}
 use Rattle.roads.specs.declared.network.Network.{Network}
 use Rattle.roads.specs.declared.road.Road.{Road}
 use Rattle.rows.specs.declared.row.Row.{Row}
-use Rattle.rows.specs.Places.{RowAt, pairs_at}
 use Rattle.rows.specs.Sound.{Made}
 use Rattle.rows.specs.Trails.{Trail}
 use Rattle.rows.proofs.Filter.{row_exists}
-use Rattle.trips.specs.Pages.{Page, Rows}
-use Rattle.trips.specs.Plans.{Numbered, swept}
-use Rattle.trips.specs.Trips.{Use}
+use Rattle.trips.specs.Pages.{Rows}
+use Rattle.trips.specs.Plans.{Numbered}
 use Rattle.growth.specs.Complete.{Inside}
 use Rattle.growth.specs.Grown.{Grown}
 use Rattle.growth.specs.Growing.{Fresh, Next}
@@ -22,7 +20,7 @@ use Rattle.growth.specs.Sourced.{Sourced}
 use Rattle.growth.proofs.Bounds.{ends_within, few_roads}
 use Rattle.growth.proofs.Counting.{exactly, room, some_row, crowd, crowd_one}
 use Rattle.growth.proofs.Wholeness.{page}
-use Rattle.frontier.specs.Frontiers.{Founded, Grew, Searched}
+use Rattle.frontier.specs.Frontiers.{Founded, Grew}
 use Rattle.sweep.specs.Sweeps.{plan_of, Accepted, Crowded, MayStand}
 
 -- the counted roads of a table that serves a network name its places

@@ -1,4 +1,4 @@
-use Rattle.std.proofs.Common.{ℕ, false, [], ◌∷◌, length, get_or, take, set, replicate, Some, None, Option, sym, refl, subst, ap, ◌∙◌, arith, length-set, rules}
+use Rattle.std.proofs.Common.{ℕ, length, get_or, take, set, Some, None, Option, sym, refl, subst, ap, ◌∙◌, arith, length-set, rules}
 use Rattle.std.proofs.lemmas.List.{take_more_set, length-replicate}
 use Rattle.growth.specs.Sourced.{Sourced}
 use Rattle.growth.proofs.Sources.{sourced_first}

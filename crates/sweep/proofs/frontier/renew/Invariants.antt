@@ -1,5 +1,3 @@
-use Rattle.std.proofs.Common.{◌≡◌}
-use Rattle.frontier.specs.Frontiers.{Renewed, Sized}
 use Rattle.frontier.proofs.Renewals.{Renewing}
 use Rattle.sweep.proofs.frontier.renew.Given as goal
 

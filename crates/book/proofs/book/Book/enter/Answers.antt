@@ -1,4 +1,4 @@
-use Rattle.std.proofs.Common.{◌≡◌, ◌<◌, ◌≤◌, length, sym, ap, ◌∙◌, arith, length-set}
+use Rattle.std.proofs.Common.{◌<◌, ◌≤◌, length, ◌∙◌, arith, length-set}
 use Rattle.book.proofs.Sheets.{total_more, one_more, following_more}
 use Rattle.book.proofs.book.Book.enter.Goals as goal
 

@@ -1,4 +1,4 @@
-use Rattle.std.proofs.Common.{◌≡◌, ◌-◌, ◌<◌, refl, subst, arith}
+use Rattle.std.proofs.Common.{◌-◌, ◌<◌, refl, subst, arith}
 use Rattle.std.proofs.lemmas.Bool.{false≢true}
 use Rattle.book.specs.Sweeping.{OneMore}
 use Rattle.book.proofs.Entering.{turned_down, entered}
