@@ -1,5 +1,5 @@
 -- The best rows of a book as lexicographic minima.
-use Rattle.std.specs.Prelude.{◌≡◌, ℕ, List, ◌≢◌}
+use Rattle.std.specs.Prelude.{ℕ, List, ◌≢◌}
 use Rattle.book.specs.Reading.{sheet_of}
 use Rattle.book.specs.declared.book.Book.{Book}
 use Rattle.criteria.specs.Lexical.{lexical_meaning}

@@ -1,5 +1,5 @@
 -- What the sweep of a new book over the program's tables comes to.
-use Rattle.std.proofs.Common.{◌≡◌, ℕ, ◌+◌, ◌<◌, ◌≤◌, List, map, length, take, sym, refl, ap, ◌∙◌, subst, arith}
+use Rattle.std.proofs.Common.{◌≡◌, ℕ, ◌<◌, ◌≤◌, List, map, length, take, sym, refl, ap, ◌∙◌, subst, arith}
 use Rattle.book.specs.Faults.{planner_number}
 use Rattle.book.specs.Reading.{Serving, rows_there}
 use Rattle.book.specs.Sweeping.{Entered, Served, SweepRefused, unused}

@@ -1,7 +1,7 @@
 -- A text in a table of zeros grows by what is copied behind it.
-use Rattle.std.proofs.Common.{◌≡◌, ℕ, ◌+◌, ◌-◌, ◌≤◌, List, ◌++◌, length, take, drop, replicate, sym, refl, ap, ◌∙◌, append_assoc, arith, length-append}
+use Rattle.std.proofs.Common.{◌≡◌, ℕ, ◌+◌, ◌-◌, ◌≤◌, List, ◌++◌, length, take, drop, replicate, sym, ap, ◌∙◌, append_assoc, arith, length-append}
 use borrow.Rule.Slice.PartMut.{put_mid}
-use Rattle.std.proofs.lemmas.List.{take_at, drop_at, drop-drop, drop-replicate}
+use Rattle.std.proofs.lemmas.List.{take_at, drop_at, drop-replicate}
 use Rattle.printout.specs.Record.{Written}
 
 pub written_more : (out bytes table part : List ℕ) (at size k : ℕ) → Written out at table → part ≡ bytes → size ≡ length bytes → k ≡ size → at + size ≤ 147456 → Written (out ++ bytes) (at + size) (put_mid at k table part)

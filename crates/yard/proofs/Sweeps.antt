@@ -11,7 +11,7 @@ use Rattle.trips.proofs.Thinned.{series_page, pool_page}
 use Rattle.yard.specs.Network.{yard_roads, roads_with, sweep_from, round_trip, all_together}
 use Rattle.yard.specs.Table.{timed, listed, Table}
 use Rattle.yard.proofs.Judges.{Judge, sum_judge, limit_judge, peak_judge}
-use Rattle.yard.proofs.Tested.{page, test, tested}
+use Rattle.yard.proofs.Tested.{page, tested}
 use Rattle.yard.proofs.Thinned.{joins_test, joins_thinned, both_test, both_thinned}
 
 -- time is the sum of mark 0

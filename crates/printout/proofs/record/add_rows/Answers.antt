@@ -1,4 +1,4 @@
-use Rattle.std.proofs.Common.{◌≡◌, ◌<◌, ◌≤◌, ◌++◌, length, take, ap, subst, arith}
+use Rattle.std.proofs.Common.{◌≤◌, ◌++◌, length, take, subst, arith}
 use lib.ListN.{length-map}
 use Rattle.std.proofs.lemmas.List.{take_all}
 use Rattle.rows.specs.Places.{pair_of}

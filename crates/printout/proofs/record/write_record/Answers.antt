@@ -1,4 +1,4 @@
-use Rattle.std.proofs.Common.{replicate, Ok, Err, refl, inl, inr}
+use Rattle.std.proofs.Common.{replicate, Ok, Err, refl, inr}
 use Rattle.lines.specs.Text.{text}
 use Rattle.lines.specs.declared.line.Line.TheVariants as line
 use Rattle.roadfile.specs.Faults.{file_number}
