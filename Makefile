@@ -1,9 +1,8 @@
-# make run: builds the program and runs it on the yard example. make test: the whole gate.
+# make run: proves and builds the program, and runs it on the yard example. make test: the whole gate.
 .PHONY: run test
 
 run:
-	rt check roadsheet
-	target/bin/roadsheet < examples/yard.crn
+	cd crates/roadsheet && rt run < ../../examples/yard.crn
 
 test:
 	.ci/run
