@@ -1,13 +1,12 @@
 #!/usr/bin/env python3
-"""The record of a road file, made a second time and by another method than the program's.
+"""The whole record of a road file, made a second time and by another method than the library's.
 
-  sheets.py script     the cases, one a line: further input of the case program
-  sheets.py expected   the record of each case, as the program must write it
+  sheets.py files      the cases, one after the other: the size of a file in four bytes, the lowest first, and its bytes
+  sheets.py expected   the record of each case, as the library must write it
 
-The program adds rows one by one, the best first, and never takes one back. Here every place has a set of
+The library adds rows one by one, the best first, and never takes one back. Here every place has a set of
 pairs of time and limit; each road is applied to the whole set of its start, a pair that another covers is
 struck out, and that goes on until no road changes anything. Only then are the pairs counted and sorted.
-A line of the script is the word `sheet` and then the bytes of the file, as in roadfiles.py.
 """
 import sys
 
@@ -49,7 +48,7 @@ def lists(places, roads):
 
 
 def record(data):
-    """What the program writes for a file."""
+    """What the library writes for a file."""
     if len(data) > MOST_BYTES:
         return "refused 21 at 0\n"
     places, roads, refusal = roadfiles.load(data, ROADS)
@@ -146,22 +145,23 @@ def cases():
         yield crowded_network(dice)
 
 
-# ---- the two texts
+# ---- input and output of the case program
 
 
-def script():
-    return "".join(roadfiles.script_line("sheet", parts) + "\n" for parts in cases())
+def files():
+    data = [roadfiles.file_of(parts) for parts in cases()]
+    return b"".join(len(file).to_bytes(4, "little") + file for file in data)
 
 
 def expected():
-    return "".join(record(roadfiles.file_of(parts)) for parts in cases())
+    return "".join(record(roadfiles.file_of(parts)) for parts in cases()).encode()
 
 
 def main():
-    texts = {"script": script, "expected": expected}
-    if len(sys.argv) != 2 or sys.argv[1] not in texts:
-        sys.exit("usage: sheets.py script | expected")
-    sys.stdout.write(texts[sys.argv[1]]())
+    made = {"files": files, "expected": expected}
+    if len(sys.argv) != 2 or sys.argv[1] not in made:
+        sys.exit("usage: sheets.py files | expected")
+    sys.stdout.buffer.write(made[sys.argv[1]]())
 
 
 if __name__ == "__main__":

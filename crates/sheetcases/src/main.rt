@@ -1,0 +1,41 @@
+// Writes the whole records of many road files. Standard input has them one after the other: the size of a file in four bytes, the
+// lowest first, and then its bytes.
+#![tactic(auto)]
+
+ghost use Rattle.std.specs.Prelude.{◌<◌, length, IfSome};
+
+use printout::{RECORD, write_record};
+use std::io::{Read, Write};
+
+// The first file of the input, and the input behind it; none where the input is at its end, or cut.
+fn first_file(input: &[u8]) -> Option<(&[u8], &[u8])>
+    ensures { IfSome result (λ parts. length parts.1.now < length input.now) }
+{
+    let (size, rest) = input.split_first_chunk::<4>()?;
+    let size = u32::from_le_bytes(*size) as usize;
+    if size > rest.len() {
+        return None;
+    }
+    Some(rest.split_at(size))
+}
+
+// Writes the record of each file of the input.
+fn run(rt: &HostRuntime) -> anyhow::Result<()> {
+    let mut input = Vec::new(rt.alloc());
+    rt.stdin().read_to_end(&mut input)?;
+    let mut rest = input.as_slice();
+    while let Some((file, behind)) = first_file(rest) {
+        let mut record = [0; RECORD];
+        let length = write_record(file, &mut record);
+        rt.stdout().write_all(&record[0..length])?;
+        rest = behind;
+    }
+    if !rest.is_empty() {
+        anyhow::bail!("the last file is cut");
+    }
+    Ok(())
+}
+
+fn main(rt: HostRuntime) -> anyhow::Result<()> {
+    run(&rt)
+}
