@@ -68,6 +68,6 @@ pub record Laws {V : Type 0} (m : Meaning V) : Type 0 where
   pub best : Best m
   pub tests : Tests m
 
--- r is the join of x and y wherever they pass for j and k with j + k at most most-roads; elsewhere r is any value
+-- r is the join of x and y wherever they pass for j and k with j + k at most most_roads; elsewhere r is any value
 abbrev pub Joined : {V : Type 0} → Meaning V → V → V → V → Type 0
 Joined m x y r = (j k : ℕ) → j + k ≤ most_roads → m.passes j x → m.passes k y → r ≡ m.join x y

@@ -20,7 +20,7 @@ use Rattle.growth.specs.Sourced.{Sourced}
 use Rattle.growth.proofs.Bounds.{ends_within, few_roads}
 use Rattle.growth.proofs.Counting.{exactly, room, some_row, crowd, crowd_one}
 use Rattle.growth.proofs.Wholeness.{page}
-use Rattle.frontier.specs.Frontiers.{Founded, Grew}
+use Rattle.frontiers.specs.Frontiers.{Founded, Grew}
 use Rattle.sweep.specs.Sweeps.{plan_of, Accepted, Crowded, MayStand}
 
 -- the counted roads of a table that serves a network name its places

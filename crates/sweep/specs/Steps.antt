@@ -5,7 +5,7 @@ use Rattle.roads.specs.declared.road.Road.{Road}
 use Rattle.rows.specs.declared.row.Row.{Row}
 use Rattle.growth.specs.Growing.{Fresh, Next}
 use Rattle.growth.specs.Sourced.{Sourced}
-use Rattle.frontier.specs.Frontiers.{Searching}
+use Rattle.frontiers.specs.Frontiers.{Searching}
 use Rattle.sweep.specs.declared.frontier.Step.{Step}
 use Rattle.sweep.specs.declared.frontier.Step.TheVariants.{Added, Full, Finished}
 

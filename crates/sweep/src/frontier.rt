@@ -2,7 +2,7 @@ ghost use Rattle.std.specs.Prelude.{◌≡◌, ℕ, ◌+◌, ◌<◌, ◌≤◌,
 ghost use Rattle.criteria.specs.Meaning.{Strict, Laws};
 ghost use Rattle.growth.specs.Complete.{EmptyRow};
 ghost use Rattle.growth.specs.Sourced.{Sourced};
-ghost use Rattle.frontier.specs.Frontiers.{Built, Passing, Tested, Linked, Shown, Weighed, Outdone, Foremost, Standing, Follows, Tried, Held, Enters, Kept, Sized, Newest, Renewed, Older, Ready, Chosen, Searching, Searched, Founded};
+ghost use Rattle.frontiers.specs.Frontiers.{Built, Passing, Tested, Linked, Shown, Weighed, Outdone, Foremost, Standing, Follows, Tried, Held, Enters, Kept, Sized, Newest, Renewed, Older, Ready, Chosen, Searching, Searched, Founded};
 ghost use Rattle.sweep.specs.Steps.{Advanced, SourcedAfter};
 
 use crate::ahead;

@@ -1,7 +1,7 @@
 use Rattle.std.proofs.Common.{ℕ, ◌+◌, length, get_or, take, set, Some, None, sym, refl, ap, ◌∙◌, subst, arith, length-set, rules}
 use Rattle.std.proofs.lemmas.List.{take-set, take_more_set}
-use Rattle.frontier.specs.Frontiers.{Searching}
-use Rattle.frontier.proofs.Steps.{Forward, forward_same, stands_again, step_none, step_next, step_forward}
+use Rattle.frontiers.specs.Frontiers.{Searching}
+use Rattle.frontiers.proofs.Steps.{Forward, forward_same, stands_again, step_none, step_next, step_forward}
 use Rattle.growth.specs.Sourced.{Sourced}
 use Rattle.growth.proofs.Sources.{sourced_next}
 use Rattle.rows.proofs.Filter.{row_exists}

@@ -2,8 +2,8 @@ use Rattle.std.proofs.Common.{ℕ, length, get_or, take, set, Some, None, Option
 use Rattle.std.proofs.lemmas.List.{take_more_set, length-replicate}
 use Rattle.growth.specs.Sourced.{Sourced}
 use Rattle.growth.proofs.Sources.{sourced_first}
-use Rattle.frontier.proofs.Begins.{begin_forward}
-use Rattle.frontier.proofs.Steps.{Forward, forward_same, stands_again}
+use Rattle.frontiers.proofs.Begins.{begin_forward}
+use Rattle.frontiers.proofs.Steps.{Forward, forward_same, stands_again}
 use Rattle.sweep.proofs.frontier.begin.Given as given
 use Rattle.sweep.proofs.frontier.begin.Goals as goal
 use Rattle.sweep.proofs.frontier.begin.Goals.{After-link}

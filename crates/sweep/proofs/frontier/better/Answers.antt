@@ -1,6 +1,6 @@
 use Rattle.std.proofs.Common.{get_or, Some, subst, arith}
-use Rattle.frontier.specs.Frontiers.{Chosen}
-use Rattle.frontier.proofs.Choosing.{chosen_skip, chosen_first, chosen_keep, chosen_new, stands_at}
+use Rattle.frontiers.specs.Frontiers.{Chosen}
+use Rattle.frontiers.proofs.Choosing.{chosen_skip, chosen_first, chosen_keep, chosen_new, stands_at}
 use Rattle.sweep.proofs.frontier.better.Given as given
 use Rattle.sweep.proofs.frontier.better.Goals as goal
 use Rattle.sweep.proofs.frontier.better.Goals.{In-Some}

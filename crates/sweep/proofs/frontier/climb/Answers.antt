@@ -1,6 +1,6 @@
 use Rattle.std.proofs.Common.{◌≡◌, length, take, sym, ap, ◌∙◌, subst, inr, arith, rules}
 use Rattle.std.proofs.lemmas.List.{take_all}
-use Rattle.frontier.specs.Frontiers.{Grew}
+use Rattle.frontiers.specs.Frontiers.{Grew}
 use Rattle.growth.specs.Growing.{Fresh, Next}
 use Rattle.growth.specs.Sourced.{Sourced}
 use Rattle.sweep.proofs.frontier.climb.Goals as goal

@@ -1,5 +1,5 @@
 use Rattle.std.proofs.Common.{ℕ, ◌-◌, ◌≤◌, length, take}
-use Rattle.frontier.specs.Frontiers.{Searching}
+use Rattle.frontiers.specs.Frontiers.{Searching}
 use Rattle.growth.specs.Sourced.{Sourced}
 use Rattle.sweep.proofs.frontier.climb.Given as goal
 

@@ -1,4 +1,4 @@
-use Rattle.frontier.proofs.Offers.{outdone_when}
+use Rattle.frontiers.proofs.Offers.{outdone_when}
 use Rattle.sweep.proofs.frontier.outdone.Goals as goal
 
 pub returns-then-frontier-place : goal.returns-then-frontier-place

@@ -1,5 +1,5 @@
 use Rattle.std.proofs.Common.{◌≡◌, subst, arith}
-use Rattle.frontier.specs.Frontiers.{Chosen}
+use Rattle.frontiers.specs.Frontiers.{Chosen}
 use Rattle.sweep.proofs.frontier.pick.Goals as goal
 
 pub returns : goal.returns

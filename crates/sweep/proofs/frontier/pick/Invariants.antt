@@ -1,4 +1,4 @@
-use Rattle.frontier.specs.Frontiers.{Chosen}
+use Rattle.frontiers.specs.Frontiers.{Chosen}
 use Rattle.sweep.proofs.frontier.pick.Given as goal
 
 abbrev pub invariant-loop-p : goal.invariant-loop-p

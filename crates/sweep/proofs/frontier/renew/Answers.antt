@@ -1,6 +1,6 @@
 use Rattle.std.proofs.Common.{◌≡◌, false, length, set, sym, refl, ap, ◌∙◌, subst, arith, length-set}
-use Rattle.frontier.specs.Frontiers.{Renewed}
-use Rattle.frontier.proofs.Renewals.{renewed_none, renewed_all}
+use Rattle.frontiers.specs.Frontiers.{Renewed}
+use Rattle.frontiers.proofs.Renewals.{renewed_none, renewed_all}
 use Rattle.sweep.proofs.frontier.renew.Goals as goal
 
 pub loop-j-init : goal.loop-j-init

@@ -1,4 +1,4 @@
-use Rattle.frontier.proofs.Renewals.{Renewing}
+use Rattle.frontiers.proofs.Renewals.{Renewing}
 use Rattle.sweep.proofs.frontier.renew.Given as goal
 
 abbrev pub invariant-loop-j : goal.invariant-loop-j

@@ -1,5 +1,5 @@
 use Rattle.std.proofs.Common.{◌≡◌, ◌+◌, ◌-◌, take, subst, arith, rules}
-use Rattle.frontier.specs.Frontiers.{Standing, Linked, Newest, Older, Ready}
+use Rattle.frontiers.specs.Frontiers.{Standing, Linked, Newest, Older, Ready}
 use Rattle.sweep.proofs.frontier.renew_front.Goals as goal
 
 pub renew-requires : goal.renew-requires

@@ -2,8 +2,8 @@ use Rattle.std.proofs.Common.{get_or, sym, refl, ◌∙◌, rules}
 use Rattle.roads.specs.declared.road.Road.{Road}
 use Rattle.roads.proofs.Changes.{unread}
 use Rattle.trips.specs.Plans.{Numbered}
-use Rattle.frontier.proofs.Offers.{road_read, weighed_lengths}
-use Rattle.frontier.proofs.Renewals.{renewed_shut, renewed_apart, renewed_entered, renewed_left, held_before, newest_follows, enters_by}
+use Rattle.frontiers.proofs.Offers.{road_read, weighed_lengths}
+use Rattle.frontiers.proofs.Renewals.{renewed_shut, renewed_apart, renewed_entered, renewed_left, held_before, newest_follows, enters_by}
 use Rattle.sweep.proofs.frontier.see_road.Given as given
 use Rattle.sweep.proofs.frontier.see_road.Goals as goal
 use Rattle.sweep.proofs.frontier.see_road.Goals.{Start}

@@ -1,7 +1,7 @@
 use Rattle.std.proofs.Common.{MatchBool, subst, arith}
 use Rattle.criteria.specs.Meaning.{Strict}
-use Rattle.frontier.specs.Frontiers.{Shown}
-use Rattle.frontier.proofs.Links.{latest_below}
+use Rattle.frontiers.specs.Frontiers.{Shown}
+use Rattle.frontiers.proofs.Links.{latest_below}
 use Rattle.sweep.proofs.frontier.shadowed.Goals as goal
 
 pub offset_bounds-rows-k : goal.offset_bounds-rows-k

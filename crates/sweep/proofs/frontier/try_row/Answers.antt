@@ -1,6 +1,6 @@
 use Rattle.std.proofs.Common.{◌<◌, get_or, rules}
 use Rattle.roads.proofs.Changes.{unread}
-use Rattle.frontier.proofs.Offers.{row_read, road_read, ends_low, tried_by}
+use Rattle.frontiers.proofs.Offers.{row_read, road_read, ends_low, tried_by}
 use Rattle.sweep.proofs.frontier.try_row.Given as given
 use Rattle.sweep.proofs.frontier.try_row.Goals as goal
 use Rattle.sweep.proofs.frontier.try_row.Goals.{After-extension-q}

@@ -2,9 +2,9 @@ use Rattle.std.proofs.Common.{◌<◌, length, get_or, Some, None, sym, subst, a
 use Rattle.roads.specs.declared.road.Road.{Road}
 use Rattle.roads.proofs.Changes.{unread}
 use Rattle.trips.specs.Plans.{Numbered}
-use Rattle.frontier.specs.Frontiers.{Latest, Linked}
-use Rattle.frontier.proofs.Offers.{road_read}
-use Rattle.frontier.proofs.Walks.{Walking, walking_same, walk_start, walk_step, walk_end, walk_follows, left_of, left_falls, road_low}
+use Rattle.frontiers.specs.Frontiers.{Latest, Linked}
+use Rattle.frontiers.proofs.Offers.{road_read}
+use Rattle.frontiers.proofs.Walks.{Walking, walking_same, walk_start, walk_step, walk_end, walk_follows, left_of, left_falls, road_low}
 use Rattle.sweep.proofs.frontier.try_rows.Given as given
 use Rattle.sweep.proofs.frontier.try_rows.Goals as goal
 use Rattle.sweep.proofs.frontier.try_rows.Goals.{Start, In-Some}

@@ -1,6 +1,6 @@
 use Rattle.std.proofs.Common.{get_or}
 use Rattle.roads.proofs.Changes.{unread}
-use Rattle.frontier.proofs.Walks.{Walking, left_of}
+use Rattle.frontiers.proofs.Walks.{Walking, left_of}
 use Rattle.sweep.proofs.frontier.try_rows.Given as goal
 
 abbrev pub invariant-loop-at : goal.invariant-loop-at

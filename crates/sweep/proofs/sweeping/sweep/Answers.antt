@@ -3,8 +3,8 @@ use Rattle.roads.specs.Networks.{Serving}
 use Rattle.roads.specs.Tables.{Serves}
 use Rattle.growth.specs.Growing.{Fresh, Next}
 use Rattle.growth.specs.Sourced.{Sourced}
-use Rattle.frontier.specs.Frontiers.{Founded, Grew}
-use Rattle.frontier.proofs.Links.{apart}
+use Rattle.frontiers.specs.Frontiers.{Founded, Grew}
+use Rattle.frontiers.proofs.Links.{apart}
 use Rattle.sweep.specs.Sweeps.{Crowded}
 use Rattle.sweep.proofs.Sweeps.{accepted, may_stand, overfull, crowded, founded}
 use Rattle.sweep.proofs.sweeping.sweep.Given as given

@@ -6,7 +6,7 @@ use Rattle.rows.specs.declared.row.Row.{Row}
 use Rattle.rows.specs.Places.{RowAt}
 use Rattle.trips.specs.Plans.{Numbered}
 use Rattle.growth.specs.Growing.{Fresh, Next}
-use Rattle.frontier.specs.Frontiers.{Seeing, Renewed, Tried, Chosen, Searching}
+use Rattle.frontiers.specs.Frontiers.{Seeing, Renewed, Tried, Chosen, Searching}
 
 module _ {V W : Type 0} (a : Meaning V) (b : Meaning W) where
   -- the newest row was offered with a road that leaves its place: every place still holds the best of what has been seen

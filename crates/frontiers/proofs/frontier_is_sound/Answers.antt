@@ -1,5 +1,5 @@
-use Rattle.frontier.proofs.Sound.{stays_renewed, chooses_next, leaves_none}
-use Rattle.frontier.proofs.frontier_is_sound.Goals as goal
+use Rattle.frontiers.proofs.Sound.{stays_renewed, chooses_next, leaves_none}
+use Rattle.frontiers.proofs.frontier_is_sound.Goals as goal
 
 pub returns : goal.returns
 returns g c = record {

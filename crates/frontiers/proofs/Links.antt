@@ -11,7 +11,7 @@ use Rattle.growth.specs.Grown.{Grown}
 use Rattle.growth.proofs.Orders.{ahead_first}
 use Rattle.growth.proofs.Tables.{at_one}
 use Rattle.growth.proofs.Wholeness.{decide_covered}
-use Rattle.frontier.specs.Frontiers.{Latest, Shown}
+use Rattle.frontiers.specs.Frontiers.{Latest, Shown}
 
 -- a test is not both true and false
 pub apart : {A : Type 0} {b : Bool} → b ≡ true → b ≡ false → A

@@ -14,7 +14,7 @@ use Rattle.growth.proofs.Invariant as invariant
 use Rattle.growth.proofs.Orders.{ahead_trans}
 use Rattle.growth.proofs.Tables.{at_left, at_push}
 use Rattle.growth.proofs.Bounds.{few_roads}
-use Rattle.frontier.specs.Frontiers.{Latest, Linked, Ready, Older, Newest, Standing, Sized, Passing, Chosen}
+use Rattle.frontiers.specs.Frontiers.{Latest, Linked, Ready, Older, Newest, Standing, Sized, Passing, Chosen}
 
 module _ {V W : Type 0} (rs : List (Row V W)) (c : Row V W) where
   -- among the first rows nothing changes

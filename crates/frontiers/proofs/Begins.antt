@@ -6,10 +6,10 @@ use Rattle.roads.specs.declared.road.Road.{Road}
 use Rattle.rows.specs.declared.row.Row.{Row}
 use Rattle.growth.specs.Complete.{EmptyRow}
 use Rattle.growth.proofs.Invariant as invariant
-use Rattle.frontier.specs.Frontiers.{Latest, Linked, Standing, Founded}
-use Rattle.frontier.proofs.Appends.{linked_more, newest_more}
-use Rattle.frontier.proofs.Links.{apart}
-use Rattle.frontier.proofs.Steps.{Forward}
+use Rattle.frontiers.specs.Frontiers.{Latest, Linked, Standing, Founded}
+use Rattle.frontiers.proofs.Appends.{linked_more, newest_more}
+use Rattle.frontiers.proofs.Links.{apart}
+use Rattle.frontiers.proofs.Steps.{Forward}
 
 module _ {V W : Type 0} (a : Meaning V) (b : Meaning W) (roads : List Road) (places origin base room : ℕ) (h : Founded a b roads places origin base room) (some : 1 ≤ room) (r : Row V W) (e : EmptyRow a b origin r) where
   -- no row is linked yet

@@ -8,8 +8,8 @@ use Rattle.rows.specs.declared.row.Row.{Row}
 use Rattle.rows.specs.Places.{RowAt}
 use Rattle.growth.specs.Growing.{Fresh}
 use Rattle.trips.specs.Plans.{Numbered}
-use Rattle.frontier.specs.Frontiers.{Linked, Held, Standing, Tried, Enters, Follows, Kept, Sized, Renewed, Newest, Older, Ready}
-use Rattle.frontier.proofs.Offers.{held_still, held_apart, held_here, kept}
+use Rattle.frontiers.specs.Frontiers.{Linked, Held, Standing, Tried, Enters, Follows, Kept, Sized, Renewed, Newest, Older, Ready}
+use Rattle.frontiers.proofs.Offers.{held_still, held_apart, held_here, kept}
 
 module _ {V W : Type 0} (a : Meaning V) (b : Meaning W) (la : Laws a) (lb : Laws b) (roads : List Road) (base : ℕ) (rs : List (Row V W)) (j place newest : ℕ) (r : Road) (n : Numbered roads j r) (new : Newest a b rs newest place) where
   -- the road of an extension by road j

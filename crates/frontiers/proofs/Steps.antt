@@ -6,8 +6,8 @@ use Rattle.roads.specs.declared.road.Road.{Road}
 use Rattle.rows.specs.declared.row.Row.{Row}
 use Rattle.rows.specs.Places.{RowAt}
 use Rattle.growth.specs.Growing.{Fresh, Next}
-use Rattle.frontier.specs.Frontiers.{Linked, Older, Newest, Chosen, Renewable, Searching, Sized, Ready}
-use Rattle.frontier.proofs.Appends.{linked_more, older_from, chosen_next, chosen_none, fresh_inside, standing_more, newest_more}
+use Rattle.frontiers.specs.Frontiers.{Linked, Older, Newest, Chosen, Renewable, Searching, Sized, Ready}
+use Rattle.frontiers.proofs.Appends.{linked_more, older_from, chosen_next, chosen_none, fresh_inside, standing_more, newest_more}
 
 module _ {V W : Type 0} (a : Meaning V) (b : Meaning W) (roads : List Road) (places origin base : ℕ) where
   -- what a row more, at the place, leaves to be renewed

@@ -8,8 +8,8 @@ use Rattle.rows.specs.declared.row.Row.{Row}
 use Rattle.rows.specs.Places.{RowAt}
 use Rattle.growth.specs.Growing.{Fresh}
 use Rattle.trips.specs.Plans.{Numbered}
-use Rattle.frontier.specs.Frontiers.{Latest, Linked, Held, Standing, Tried, Enters, Kept, Follows}
-use Rattle.frontier.proofs.Offers.{held_still, held_here, kept, weighed_lengths}
+use Rattle.frontiers.specs.Frontiers.{Latest, Linked, Held, Standing, Tried, Enters, Kept, Follows}
+use Rattle.frontiers.proofs.Offers.{held_still, held_here, kept, weighed_lengths}
 
 -- how many steps are left at most
 abbrev pub left_of : Option ℕ → ℕ

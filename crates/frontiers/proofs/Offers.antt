@@ -12,8 +12,8 @@ use Rattle.growth.specs.Growing.{Ahead, Covered, Extends, Extension, Fresh}
 use Rattle.growth.specs.Grown.{Grown}
 use Rattle.growth.proofs.Orders.{covers_same, covers_ahead, ahead_trans}
 use Rattle.growth.proofs.Tables.{at_one}
-use Rattle.frontier.specs.Frontiers.{Latest, Shown, Outdone, Foremost, Weighed, shadowed, outdone, held, Held, Built, Passing, Standing, Follows, Tried}
-use Rattle.frontier.proofs.Links.{shown_covered}
+use Rattle.frontiers.specs.Frontiers.{Latest, Shown, Outdone, Foremost, Weighed, shadowed, outdone, held, Held, Built, Passing, Standing, Follows, Tried}
+use Rattle.frontiers.proofs.Links.{shown_covered}
 
 -- the row that was read stands where it was read
 pub row_read : {V W : Type 0} (rs : List (Row V W)) (i : ℕ) (x : Row V W) → i < length rs → x ≡ get_or rs i x → RowAt rs i x

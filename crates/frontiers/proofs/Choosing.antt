@@ -8,8 +8,8 @@ use Rattle.rows.specs.Places.{RowAt, pair_of}
 use Rattle.growth.specs.Growing.{Ahead}
 use Rattle.growth.proofs.Orders.{covers_same, covers_ahead, ahead_trans}
 use Rattle.growth.proofs.Tables.{at_one}
-use Rattle.frontier.specs.Frontiers.{Chosen}
-use Rattle.frontier.proofs.Links.{apart}
+use Rattle.frontiers.specs.Frontiers.{Chosen}
+use Rattle.frontiers.proofs.Links.{apart}
 
 module _ {V W : Type 0} (a : Meaning V) (b : Meaning W) (la : Laws a) (lb : Laws b) (found : List Bool) (best : List (Row V W)) (n : ℕ) where
   -- one of the first n + 1 places is one of the first n, or the last

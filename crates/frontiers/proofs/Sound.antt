@@ -1,9 +1,9 @@
 -- Why the frontier of a sweep gives the next row.
 use Rattle.std.proofs.Common.{◌<◌, ◌≤◌, subst}
 use Rattle.criteria.specs.Meaning.{Meaning, Laws}
-use Rattle.frontier.specs.Sound.{StaysRenewed, ChoosesNext, LeavesNone}
-use Rattle.frontier.proofs.Appends.{chosen_next, chosen_none, fresh_inside}
-use Rattle.frontier.proofs.Renewals.{renewed_left}
+use Rattle.frontiers.specs.Sound.{StaysRenewed, ChoosesNext, LeavesNone}
+use Rattle.frontiers.proofs.Appends.{chosen_next, chosen_none, fresh_inside}
+use Rattle.frontiers.proofs.Renewals.{renewed_left}
 
 module _ {V W : Type 0} {a : Meaning V} {b : Meaning W} (la : Laws a) (lb : Laws b) where
   -- offering the newest row keeps what every place holds right

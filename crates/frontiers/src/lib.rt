@@ -1,7 +1,7 @@
 // Why the best uncovered extension into each place is enough to find the next row of a sweep.
 #![tactic(auto)]
 
-ghost use Rattle.frontier.specs.Sound.{StaysRenewed, ChoosesNext, LeavesNone};
+ghost use Rattle.frontiers.specs.Sound.{StaysRenewed, ChoosesNext, LeavesNone};
 
 use criteria::{Criterion, laws_stand};
 
