@@ -90,7 +90,7 @@ module _ {A B V W : Type 0} (a : Meaning V) (b : Meaning W) (k : Book A B) (road
         ap (λ l. front ++ l) (append_assoc (take count f.free) (drop count f.free) f.rest) ∙
         sym (append_assoc front (take count f.free) (drop count f.free ++ f.rest))
 
-    -- which stand before those that were lent in vain
+    -- each of them stands within the rows in use and those of the new sheet
     behind : (i : ℕ) (r : Row V W) → RowAt (take count f.free) i r → k.used + i ≤ length (front ++ take count f.free)
     behind i r at = omega (arith, at.0, length-append front (take count f.free), front_long)
 
