@@ -122,15 +122,15 @@ module _ (f g : Objective) (roads : List Road) (s e : ℕ) where
     }
 
     pub every : (set : List (List ℕ)) → Minimal f g roads s e set → SameValues f g roads set pairs
-    every other minimal-other =
+    every other minimal_other =
         let (set, (minimal_set, values)) = listed in
         record {
           there = λ i p h.
               let (x, k) = at_some set i (subst (λ n. i < n) values.many h.0) in
-              let (j, (y, (l, same))) = minimal_sets_agree_lem f g roads s e set other minimal_set minimal-other i x k in
+              let (j, (y, (l, same))) = minimal_sets_agree_lem f g roads s e set other minimal_set minimal_other i x k in
               (j, (y, (l, equal_values same (values.each i x p k h))));
           back = λ j y l.
-              let (i, (x, (k, same))) = minimal_sets_agree_lem f g roads s e other set minimal-other minimal_set j y l in
+              let (i, (x, (k, same))) = minimal_sets_agree_lem f g roads s e other set minimal_other minimal_set j y l in
               let (p, h) = at_some pairs i (subst (λ n. i < n) (sym values.many) k.0) in
               (i, (p, (h, equal_values (record { first = sym same.first; second = sym same.second }) (values.each i x p k h))));
         }

@@ -30,10 +30,10 @@ module _ (roads : List Road) (s e : ℕ) where
 
   -- a trip that is at least as good as every other has the lexicographic minimum
   pub best_is_lexmin : {V : Type 0} {m : Meaning V} {objectives : List Objective} {Is : V → List ℕ → Type 0} → Shown m objectives Is → (v : V) (xs : List ℕ) → Is v xs → (us : List Use) → Drives roads s us e → v ≡ worth m us → ((vs : List Use) → Drives roads s vs e → m.good v (worth m vs)) → Lexmin objectives roads s e xs
-  best_is_lexmin {m = m} {objectives = objectives} {Is = Is} shown v xs is us goes worth-v best = record {
+  best_is_lexmin {m = m} {objectives = objectives} {Is = Is} shown v xs is us goes worth_v best = record {
     path = path_of us;
     leads = drives_path roads s us e goes;
-    is = shown.one v xs (values objectives roads (path_of us)) is (subst (λ o. Is o (values objectives roads (path_of us))) (sym worth-v) (shown.trips us goes));
+    is = shown.one v xs (values objectives roads (path_of us)) is (subst (λ o. Is o (values objectives roads (path_of us))) (sym worth_v) (shown.trips us goes));
     least = λ q leads.
         let vs = uses_on roads q in
         let there = path_drives roads s q e leads in

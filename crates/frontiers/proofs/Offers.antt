@@ -49,9 +49,9 @@ module _ {V W : Type 0} (a : Meaning V) (b : Meaning W) where
 
     -- another place keeps what it holds
     pub held_apart : (found found' : List Bool) (best best' : List (Row V W)) (seen : ℕ → ℕ → Type 0) (place : ℕ) → get_or found' place false ≡ get_or found place false → ((c : Row V W) → RowAt best' place c → RowAt best place c) → Held a b roads base rs found best seen place → Held a b roads base rs found' best' seen place
-    held_apart found found' best best' seen place same-found same-best h = record {
-      right = λ t c at. h.right (sym same-found ∙ t) c (same-best c at);
-      first = λ z f s e. let (t, on) = h.first z f s e in (same-found ∙ t, λ c at. on c (same-best c at));
+    held_apart found found' best best' seen place same_found same_best h = record {
+      right = λ t c at. h.right (sym same_found ∙ t) c (same_best c at);
+      first = λ z f s e. let (t, on) = h.first z f s e in (same_found ∙ t, λ c at. on c (same_best c at));
     }
 
     module _ (origin : ℕ) (front : List (Row V W)) (long : length front ≡ base) (g : Grown a b roads origin front rs) (i j : ℕ) (p : Row V W) (r : Road) (q : Row V W) (e : Extends a b roads base rs i p j r q) (found : List Bool) (best : List (Row V W)) (found' : List Bool) (best' : List (Row V W)) (o : Option ℕ) (latest : Latest rs (length rs) q.end o) (wide : q.end < length found) (wide' : q.end < length best) (w : Weighed a b rs q o found best found' best') (passing : Passing a b q) where

@@ -6,8 +6,16 @@ use Rattle.roads.specs.declared.road.Road.{Road}
 use Rattle.rows.specs.declared.row.Row.{Row}
 use Rattle.rows.specs.Places.{RowAt}
 use Rattle.growth.specs.Growing.{Fresh, Next}
-use Rattle.frontiers.specs.Frontiers.{Linked, Older, Newest, Chosen, Renewable, Searching, Sized, Ready}
+use Rattle.frontiers.specs.Frontiers.{Linked, Older, Newest, Standing, Chosen, Searching, Sized, Ready}
 use Rattle.frontiers.proofs.Appends.{linked_more, older_from, chosen_next, chosen_none, fresh_inside, standing_more, newest_more}
+
+-- linked rows of a sweep, the newest at the place; the other places hold what they held before it was added
+pub record Renewable {V W : Type 0} (a : Meaning V) (b : Meaning W) (roads : List Road) (base : ℕ) (rs : List (Row V W)) (last prev : List (Option ℕ)) (found : List Bool) (best : List (Row V W)) (newest place : ℕ) : Type 0 where
+  pub standing : Standing a b roads base rs
+  pub linked : Linked rs last prev
+  pub sized : Sized found best
+  pub added : Newest a b rs newest place
+  pub older : Older a b roads base rs place newest found best
 
 module _ {V W : Type 0} (a : Meaning V) (b : Meaning W) (roads : List Road) (places origin base : ℕ) where
   -- what a row more, at the place, leaves to be renewed

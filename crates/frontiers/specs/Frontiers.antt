@@ -142,14 +142,6 @@ module _ {V W : Type 0} (a : Meaning V) (b : Meaning W) where
   abbrev pub Older : List Road → ℕ → List (Row V W) → ℕ → ℕ → List Bool → List (Row V W) → Type 0
   Older roads base rs place newest found best = (p : ℕ) → p < 2048 → (p ≢ place) → Held roads base rs found best (λ i _. i < newest) p
 
-  -- linked rows of a sweep, the newest at the place; the other places hold what they held before it was added
-  pub record Renewable (roads : List Road) (base : ℕ) (rs : List (Row V W)) (last prev : List (Option ℕ)) (found : List Bool) (best : List (Row V W)) (newest place : ℕ) : Type 0 where
-    pub standing : Standing roads base rs
-    pub linked : Linked rs last prev
-    pub sized : Sized found best
-    pub added : Newest rs newest place
-    pub older : Older roads base rs place newest found best
-
   -- of the first n places, the one whose held row is the best, where any holds one
   abbrev pub Chosen : ℕ → List Bool → List (Row V W) → Option ℕ → Type 0
   Chosen n found best None = (p : ℕ) → p < n → slice_index_or found p false ≡ false

@@ -52,8 +52,8 @@ module _ {V W : Type 0} (a : Meaning V) (b : Meaning W) (la : Laws a) (lb : Laws
   -- the one row of the empty trip
   pub start : (r : Row V W) → r.end ≡ origin → r.first ≡ a.unit → r.second ≡ b.unit → r.roads ≡ 0 → r.source ≡ Empty → Grown a b roads origin front (r ∷ [])
   unfolding worth
-  start r at-o x y none src = record {
-    seed = λ p (_, is). let e : p ≡ r = sym (is r) in (ap (λ q. q.end) e ∙ at-o, ap (λ q. q.first) e ∙ x, ap (λ q. q.second) e ∙ y);
+  start r at_o x y none src = record {
+    seed = λ p (_, is). let e : p ≡ r = sym (is r) in (ap (λ q. q.end) e ∙ at_o, ap (λ q. q.first) e ∙ x, ap (λ q. q.second) e ∙ y);
     some = omega arith;
     known = λ i p (h, is).
         let zero_i : i ≡ 0 = omega arith in
@@ -61,7 +61,7 @@ module _ {V W : Type 0} (a : Meaning V) (b : Meaning W) (la : Laws a) (lb : Laws
         record {
           uses = [];
           stops = origin ∷ [];
-          drives = sym (ap (λ q. q.end) e ∙ at-o);
+          drives = sym (ap (λ q. q.end) e ∙ at_o);
           values = λ k. ((ap (λ q. q.first) e ∙ x) k, (ap (λ q. q.second) e ∙ y) k);
           count = sym (ap (λ q. q.roads) e ∙ none);
           trail = empty p (at_behind front (r ∷ []) i p (h, is)) (ap (λ q. q.source) e ∙ src);
@@ -71,7 +71,7 @@ module _ {V W : Type 0} (a : Meaning V) (b : Meaning W) (la : Laws a) (lb : Laws
             index = i;
             row = p;
             stands = (h, is);
-            ends = ap (λ q. q.end) e ∙ at-o ∙ sym (ap (λ n. get_or (origin ∷ []) n 0) zero_k);
+            ends = ap (λ q. q.end) e ∙ at_o ∙ sym (ap (λ n. get_or (origin ∷ []) n 0) zero_k);
             covers = covers_same la lb (pair_of p);
           };
         };

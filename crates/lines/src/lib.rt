@@ -1,4 +1,4 @@
-// One line of a report, in 48 bytes.
+// One line of the whole record of a road file, in 48 bytes.
 #![tactic(auto)]
 
 mod line;

@@ -1,4 +1,4 @@
--- What the sweep of a new book over the program's tables comes to.
+-- What the sweep of a new book over the record's tables comes to.
 use Rattle.std.proofs.Common.{◌≡◌, ℕ, ◌<◌, ◌≤◌, List, map, length, take, sym, refl, ap, ◌∙◌, subst, arith}
 use Rattle.book.specs.Faults.{planner_number}
 use Rattle.book.specs.Reading.{Serving, rows_there}
@@ -26,7 +26,7 @@ use Rattle.trips.specs.Pages.{Page, Rows, all_rows}
 use Rattle.printout.specs.Record.{CrowdedOut, Listed, by_load, places_text, by_time}
 use Rattle.printout.specs.Sheets.{There, pairs_listed}
 
--- a new book on the network n, by the program's criteria, over a table of 1,024 rows
+-- a new book on the network n, by the record's criteria, over a table of 1,024 rows
 pub record New (n : Network) (k : Book Sum Limit) (rows : List (Row SumValue LimitValue)) : Type 0 where
   pub network : k.network ≡ n
   pub first : k.first.column.index ≡ 0
@@ -50,7 +50,7 @@ module _ (n : Network) (roads : List Road) (k : Book Sum Limit) (rows : List (Ro
           place = subst (λ x. p < x.places) (sym (one.network ∙ new.network)) lt;
         }
 
-    -- by the program's criteria
+    -- by the record's criteria
     e' : Entered by_time by_load k k' roads rows rows' 0 added
     e' = subst (λ j. Entered by_time (limit_meaning j) k k' roads rows rows' 0 added) new.second (subst (λ i. Entered (sum_meaning i) (limit_meaning k.second.column.index) k k' roads rows rows' 0 added) new.first e)
 
@@ -72,7 +72,7 @@ module _ (n : Network) (roads : List Road) (k : Book Sum Limit) (rows : List (Ro
         lines = refl;
       }
 
-  -- what holds of the book's criteria, network and room holds of the program's
+  -- what holds of the book's criteria, network and room holds of the record's
   by_program : (P : ℕ → ℕ → Network → ℕ → Type 0) → P k.first.column.index k.second.column.index k.network (unused k rows) → P 0 2 n 1024
   by_program P h = subst (P 0 2 n) room_is (subst (λ x. P 0 2 x (unused k rows)) new.network (subst (λ j. P 0 j k.network (unused k rows)) new.second (subst (λ i. P i k.second.column.index k.network (unused k rows)) new.first h)))
 

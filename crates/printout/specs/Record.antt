@@ -1,4 +1,4 @@
--- The record of a road file: what the program writes for it.
+-- The whole record of a road file: each place with the rows of its page, or the refusal.
 use Rattle.std.specs.Prelude.{◌≡◌, ℕ, zero, suc, ◌-◌, ◌<◌, ◌≤◌, false, ◌⊎◌, List, [], ◌∷◌, ◌++◌, length, replicate, Some, None, Ok, Err, Option, Result}
 use Rattle.criteria.specs.Limit.{limit_meaning}
 use Rattle.criteria.specs.Meaning.{Meaning}
@@ -43,7 +43,7 @@ abbrev pub places_text : (ℕ → List Pair) → ℕ → List ℕ
 places_text pages zero = []
 places_text pages (suc n) = places_text pages n ++ place_text n (pages n)
 
--- the program's first criterion: the sum of mark 0
+-- the record's first criterion: the sum of mark 0
 abbrev pub by_time : Meaning SumValue
 by_time = sum_meaning 0
 
@@ -69,7 +69,7 @@ abbrev pub Answered : Result Network LoadFault → List Road → List ℕ → Ty
 Answered (Ok n) roads out = Listed n roads out ⊎ CrowdedOut n roads out
 Answered (Err f) roads out = out ≡ text (line.Refused (file_number f.fault) f.offset)
 
--- an entry of the program's road table before a file is loaded
+-- an entry of the record's road table before a file is loaded
 abbrev pub blank : Road
 blank = record { start = 0; end = 0; marks = replicate 4 0; «open» = false }
 

@@ -1,4 +1,4 @@
--- The first sheet of the program's book, place by place.
+-- The first sheet of the record's book, place by place.
 use Rattle.std.specs.Prelude.{ℕ, List, map}
 use Rattle.book.specs.Reading.{Readable, rows_there}
 use Rattle.book.specs.declared.book.Book.{Book}

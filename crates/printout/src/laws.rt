@@ -13,7 +13,7 @@ pub fn one_record()
     one_page();
 }
 
-// By the program's criteria a plan has one page at most at a place.
+// By the record's criteria a plan has one page at most at a place.
 fn one_page()
     ensures { UniquePage by_time by_load }
 {

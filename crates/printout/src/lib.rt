@@ -1,4 +1,4 @@
-// The record of a road file: what the program writes for it.
+// The whole record of a road file: each place with the rows of its page, or the refusal.
 #![tactic(auto)]
 
 mod laws;

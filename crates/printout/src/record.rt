@@ -19,17 +19,17 @@ use trips::rows_are_counted;
 
 // The bytes of the table that a record is written to: 48 for each of 2,048 places and 1,024 rows.
 pub const RECORD: usize = 147456;
-// The most bytes that a road file given to the program may have.
+// The most bytes that a road file may have here.
 const FILE: usize = 65536;
 // The refusal of a longer one.
 const TOO_LONG: u32 = 21;
-// The roads of the table that the program loads a file into.
+// The roads of the table that a file is loaded into.
 const ROADS: usize = 1024;
-// The rows of the table that the program sweeps into.
+// The rows of the table that is swept into.
 const ROWS: usize = 1024;
-// The mark that is a road's time, and the mark that is its limit.
+// The mark that is a road's time.
 const TIME: u32 = 0;
-
+// The mark that is its limit.
 const LOAD: u32 = 2;
 
 // Fills the table with zeros.
@@ -203,7 +203,7 @@ pub fn write_record(file: &[u8], table: &mut [u8; RECORD]) -> usize
     }
 }
 
-// Whether the file has more bytes than the program takes.
+// Whether the file has more bytes than a road file may have here.
 fn is_too_long(file: &[u8]) -> bool
     ensures { MatchBool result (65536 < length file.now) (length file.now ≤ 65536) }
 {

@@ -152,8 +152,8 @@ refuses t (road s e m) es d d' t' t'' left f h l (q, (p, err)) =
     let (g, is, isf) = from_err q f err in
     let (why, _, et) = subst (λ x. Laid d t' s e m x d' t'') is p in
     (subst (Stops (length t) es left) (sym isf) (road_refused t es s e m d t' left g h l why), et)
-refuses t (remark text) es d d' t' t'' left f h l (no-fault, _, _) = let z : ◌≡◌ {A = ℕ} 0 1 = cc in absurd (omega arith)
-refuses t finish es d d' t' t'' left f h l (no-fault, _, _) = let z : ◌≡◌ {A = ℕ} 0 1 = cc in absurd (omega arith)
+refuses t (remark text) es d d' t' t'' left f h l (no_fault, _, _) = let z : ◌≡◌ {A = ℕ} 0 1 = cc in absurd (omega arith)
+refuses t finish es d d' t' t'' left f h l (no_fault, _, _) = let z : ◌≡◌ {A = ℕ} 0 1 = cc in absurd (omega arith)
 
 -- a record more that was added
 pub fills_more : (file : List ℕ) (t : List Road) (es : List Entry) (left : List ℕ) (e : Entry) (d' : Draft) (t' t'' : List Road) → Fills file t es left t' → Leads left e → ends e ≡ false → Addable (length t) es e → Drafted t d' (es ++ e ∷ []) t'' → Fills file t (es ++ e ∷ []) (drop (length (written e)) left) t''
@@ -178,5 +178,5 @@ fills_more file t es left e d' t' t'' h l on may after = record {
 pub drafts_fault : (e : Entry) (d d' : Draft) (t t' : List Road) (f : FileFault) → Added e d t (Err f) d' t' → (g : DraftFault) × (f ≡ fault.Draft g)
 drafts_fault (place name) d d' t t' f (q, (_, _, err)) = let (g, _, is) = from_err q f err in (g, is)
 drafts_fault (road s e m) d d' t t' f (q, (_, err)) = let (g, _, is) = from_err q f err in (g, is)
-drafts_fault (remark text) d d' t t' f (no-fault, _, _) = let z : ◌≡◌ {A = ℕ} 0 1 = cc in absurd (omega arith)
-drafts_fault finish d d' t t' f (no-fault, _, _) = let z : ◌≡◌ {A = ℕ} 0 1 = cc in absurd (omega arith)
+drafts_fault (remark text) d d' t t' f (no_fault, _, _) = let z : ◌≡◌ {A = ℕ} 0 1 = cc in absurd (omega arith)
+drafts_fault finish d d' t t' f (no_fault, _, _) = let z : ◌≡◌ {A = ℕ} 0 1 = cc in absurd (omega arith)

@@ -2,17 +2,22 @@
 // lowest first, and then its bytes.
 #![tactic(auto)]
 
-ghost use Rattle.std.specs.Prelude.{◌<◌, length, IfSome};
+ghost use Rattle.std.specs.Prelude.{◌≡◌, ◌+◌, ◌<◌, ◌≤◌, length, take, drop, IfSome, MatchOption};
+ghost use Rattle.sheetcases.specs.Input.{size_of};
 
 use printout::{RECORD, write_record};
 use std::io::{Read, Write};
 
 // The first file of the input, and the input behind it; none where the input is at its end, or cut.
 fn first_file(input: &[u8]) -> Option<(&[u8], &[u8])>
-    ensures { IfSome result (λ parts. length parts.1.now < length input.now) }
+    ensures file { MatchOption result (length input.now < 4 + size_of input.now) (λ parts. (4 + size_of input.now ≤ length input.now) × (parts.0.now ≡ take (size_of input.now) (drop 4 input.now)) × (parts.1.now ≡ drop (size_of input.now) (drop 4 input.now))) }
+    ensures shorter { IfSome result (λ parts. length parts.1.now < length input.now) }
 {
-    let (size, rest) = input.split_first_chunk::<4>()?;
-    let size = u32::from_le_bytes(*size) as usize;
+    if input.len() < 4 {
+        return None;
+    }
+    let size = u32::from_le_bytes([input[0], input[1], input[2], input[3]]) as usize;
+    let rest = &input[4..];
     if size > rest.len() {
         return None;
     }

@@ -110,4 +110,4 @@ module _ {V W : Type 0} (a : Meaning V) (b : Meaning W) (n : Network) (roads : L
 
   -- a search over the counted roads is well founded
   pub founded : (free : ℕ) → used + free ≤ 65536 → n.places ≤ 2048 → n.roads ≤ 16384 → Founded a b (take n.roads roads) n.places origin used free
-  founded free fits places-fit roads-fit = record { first_laws = la; second_laws = lb; named = counted_named n roads serves; inside = inside; small = places-fit; counted = omega (arith, length-take-le n.roads roads serves.long); fits = fits }
+  founded free fits places_fit roads_fit = record { first_laws = la; second_laws = lb; named = counted_named n roads serves; inside = inside; small = places_fit; counted = omega (arith, length-take-le n.roads roads serves.long); fits = fits }

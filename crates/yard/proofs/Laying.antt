@@ -72,7 +72,7 @@ module _ (roads : List Road) (yard : roads ≡ yard_roads) (n : ℕ) (d : Draft)
 
   -- and once it is laid there is one more
   pub laid : (k : ℕ) (d' : Draft) (t' : List Road) → Laid d t next.start next.end next.marks (Ok k) d' t' → Begun (n + 1) d' t'
-  laid k d' t' (_, _, _, _, _, number, places, roads-are, set_is) =
+  laid k d' t' (_, _, _, _, _, number, places, roads_are, set_is) =
       let free : next.«open» ≡ true = ap (λ q. q.«open») next_is ∙ (sound_road n unread low).free in
       let new : Road = record { start = next.start; end = next.end; marks = next.marks; «open» = true } in
       let whole : new ≡ next = (λ i. record { start = next.start; end = next.end; marks = next.marks; «open» = sym free i }) in

@@ -24,7 +24,7 @@ new c = record {
   long = length-replicate 1024 c.unused-rows.result;
 }
 
--- a plan has one number of rows by the program's criteria
+-- a plan has one number of rows by the record's criteria
 unique : (c : After-open-book) → UniqueRows by_time by_load
 unique c = subst (λ j. UniqueRows by_time (limit_meaning j)) c.in-Ok-new.ensures.1 (subst (λ i. UniqueRows (sum_meaning i) (limit_meaning c.in-Ok-new.load.column.index)) c.in-Ok.ensures.1 c.rows_are_counted.ensures.unique)
 
