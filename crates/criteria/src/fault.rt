@@ -2,9 +2,9 @@ ghost use Rattle.std.specs.Prelude.{◌≡◌};
 ghost use Rattle.criteria.specs.Fault.{fault_number};
 
 // Why a criterion is refused.
-#[derive(Clone, Copy)]
+#[derive(Clone, Copy, Debug, PartialEq, Eq)]
 pub enum CriterionFault {
-    NoSuchMark,
+    NoSuchMark = 10,
 }
 
 impl CriterionFault {
@@ -12,8 +12,6 @@ impl CriterionFault {
     pub fn number(&self) -> u32
         ensures { result ≡ fault_number self.now }
     {
-        match self {
-            CriterionFault::NoSuchMark => 10,
-        }
+        *self as u32
     }
 }

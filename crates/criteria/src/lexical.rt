@@ -6,7 +6,7 @@ use crate::comparison::Comparison;
 use crate::criterion::{Criterion, Steady};
 
 // What a trip is worth by Lexical: its value by each part.
-#[derive(Clone, Copy)]
+#[derive(Clone, Copy, Debug, PartialEq, Eq)]
 pub struct LexicalValue<X, Y> {
     pub first: X,
     pub second: Y,
@@ -71,9 +71,8 @@ impl<A: Steady, B: Criterion> Criterion for Lexical<A, B> {
 
     fn compare(&self, x: Self::Value, y: Self::Value) -> Comparison {
         match self.first.compare(x.first, y.first) {
-            Comparison::Better => Comparison::Better,
             Comparison::Equal => self.second.compare(x.second, y.second),
-            Comparison::Worse => Comparison::Worse,
+            decided => decided,
         }
     }
 

@@ -46,10 +46,10 @@ mod tests {
         };
         let gentle = criterion.read(&[10, 5, 400, 2]);
         let steep = criterion.read(&[10, 5, 200, 6]);
-        assert!(rt; matches!(criterion.compare(gentle, steep), Comparison::Better));
+        assert_eq!(rt; criterion.compare(gentle, steep), Comparison::Better);
         let both = criterion.join(gentle, steep);
         assert_eq!(rt; both.first.first.total, 20);
-        assert!(rt; matches!(both.second, PeakValue::Mark(6)));
+        assert_eq!(rt; both.second, PeakValue::Mark(6));
         assert!(rt; criterion.test(both, 2));
         assert!(rt; !criterion.test(both, 0));
         Ok(())
@@ -57,12 +57,10 @@ mod tests {
 
     #[test]
     fn refuses_a_fifth_mark(rt: HostRuntime) -> Result<(), Fail> {
-        match Limit::new(4) {
-            Ok(_) => Err(Fail::new("a limit by mark 4")),
-            Err(fault) => {
-                assert_eq!(rt; fault.number(), 10);
-                Ok(())
-            },
-        }
+        let Err(fault) = Limit::new(4) else {
+            return Err(Fail::new("a limit by mark 4"));
+        };
+        assert_eq!(rt; fault.number(), 10);
+        Ok(())
     }
 }

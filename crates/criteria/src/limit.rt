@@ -9,12 +9,12 @@ use crate::criterion::Criterion;
 use crate::fault::CriterionFault;
 
 // What a trip is worth by Limit.
-#[derive(Clone, Copy)]
+#[derive(Clone, Copy, Debug, PartialEq, Eq, PartialOrd, Ord)]
 pub enum LimitValue {
-    // No road, so no limit: better than every mark.
-    Unlimited,
     // The least mark of the roads.
     Mark(u32),
+    // No road, so no limit: better than every mark.
+    Unlimited,
 }
 
 // The least of one mark over a trip's roads; more is better.
@@ -29,7 +29,7 @@ impl Limit {
         ensures { Made (λ (l : Limit). l.column.index) column result }
     {
         Ok(Limit {
-            column: Column::new(column)?,
+            column: Column::try_from(column)?,
         })
     }
 }
@@ -66,28 +66,11 @@ impl Criterion for Limit {
     }
 
     fn compare(&self, x: LimitValue, y: LimitValue) -> Comparison {
-        match (x, y) {
-            (Unlimited, Unlimited) => Comparison::Equal,
-            (Unlimited, Mark(_)) => Comparison::Better,
-            (Mark(_), Unlimited) => Comparison::Worse,
-            (Mark(a), Mark(b)) => {
-                if a > b {
-                    Comparison::Better
-                } else if a == b {
-                    Comparison::Equal
-                } else {
-                    Comparison::Worse
-                }
-            }
-        }
+        Comparison::from(y.cmp(&x))
     }
 
     fn join(&self, x: LimitValue, y: LimitValue) -> LimitValue {
-        match (x, y) {
-            (Unlimited, _) => y,
-            (Mark(_), Unlimited) => x,
-            (Mark(a), Mark(b)) => Mark(a.min(b)),
-        }
+        x.min(y)
     }
 
     fn test(&self, x: LimitValue, k: u32) -> bool {

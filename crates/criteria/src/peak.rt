@@ -9,7 +9,7 @@ use crate::criterion::Criterion;
 use crate::fault::CriterionFault;
 
 // What a trip is worth by Peak.
-#[derive(Clone, Copy)]
+#[derive(Clone, Copy, Debug, PartialEq, Eq, PartialOrd, Ord)]
 pub enum PeakValue {
     // No road, so no grade: better than every mark.
     Level,
@@ -29,7 +29,7 @@ impl Peak {
         ensures { Made (λ (p : Peak). p.column.index) column result }
     {
         Ok(Peak {
-            column: Column::new(column)?,
+            column: Column::try_from(column)?,
         })
     }
 }
@@ -66,28 +66,11 @@ impl Criterion for Peak {
     }
 
     fn compare(&self, x: PeakValue, y: PeakValue) -> Comparison {
-        match (x, y) {
-            (Level, Level) => Comparison::Equal,
-            (Level, Mark(_)) => Comparison::Better,
-            (Mark(_), Level) => Comparison::Worse,
-            (Mark(a), Mark(b)) => {
-                if a < b {
-                    Comparison::Better
-                } else if a == b {
-                    Comparison::Equal
-                } else {
-                    Comparison::Worse
-                }
-            }
-        }
+        Comparison::from(x.cmp(&y))
     }
 
     fn join(&self, x: PeakValue, y: PeakValue) -> PeakValue {
-        match (x, y) {
-            (Level, _) => y,
-            (Mark(_), Level) => x,
-            (Mark(a), Mark(b)) => Mark(a.max(b)),
-        }
+        x.max(y)
     }
 
     fn test(&self, x: PeakValue, k: u32) -> bool {

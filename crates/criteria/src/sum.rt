@@ -8,7 +8,7 @@ use crate::criterion::{Criterion, Steady};
 use crate::fault::CriterionFault;
 
 // What a trip is worth by Sum.
-#[derive(Clone, Copy)]
+#[derive(Clone, Copy, Debug, PartialEq, Eq, PartialOrd, Ord)]
 pub struct SumValue {
     pub total: u64,
 }
@@ -25,7 +25,7 @@ impl Sum {
         ensures { Made (λ (s : Sum). s.column.index) column result }
     {
         Ok(Sum {
-            column: Column::new(column)?,
+            column: Column::try_from(column)?,
         })
     }
 }
@@ -59,18 +59,12 @@ impl Criterion for Sum {
 
     fn read(&self, marks: &[u32; 4]) -> SumValue {
         SumValue {
-            total: self.column.mark(marks) as u64,
+            total: u64::from(self.column.mark(marks)),
         }
     }
 
     fn compare(&self, x: SumValue, y: SumValue) -> Comparison {
-        if x.total < y.total {
-            Comparison::Better
-        } else if x.total == y.total {
-            Comparison::Equal
-        } else {
-            Comparison::Worse
-        }
+        Comparison::from(x.cmp(&y))
     }
 
     fn join(&self, x: SumValue, y: SumValue) -> SumValue {
@@ -80,7 +74,7 @@ impl Criterion for Sum {
     }
 
     fn test(&self, x: SumValue, k: u32) -> bool {
-        x.total <= k as u64 * u32::MAX as u64
+        x.total <= u64::from(k) * u64::from(u32::MAX)
     }
 }
 

@@ -15,18 +15,14 @@ fn masses_rise()
     ensures { StrictlyRising masses }
 {}
 
-// The first class of the table whose mass is above the limit, or the number of its classes.
-fn first_above(table: &[u32], limit: u32) -> usize
+// How many classes of a rising table, from the first, the limit bears.
+fn borne(table: &[u32], limit: u32) -> usize
+    requires { StrictlyRising table.now }
     ensures within { result ≤ length table.now }
     ensures before { (k : ℕ) → k < result → slice_index table.now k ≤ limit }
     ensures above { result < length table.now → limit < slice_index table.now result }
 {
-    for (class, mass) in table.iter().enumerate() {
-        if *mass > limit {
-            return class;
-        }
-    }
-    table.len()
+    table.partition_point(|mass| *mass <= limit)
 }
 
 // The highest class of a rising table that the limit bears, if it bears any.
@@ -35,8 +31,7 @@ fn highest(table: &[u32], limit: u32) -> Option<u32>
     requires few { length table.now < 2 ^ 32 }
     ensures { Chosen table.now (Mark limit) result }
 {
-    let above = first_above(table, limit) as u32;
-    if above == 0 { None } else { Some(above - 1) }
+    (borne(table, limit) as u32).checked_sub(1)
 }
 
 // The highest class of rigs that the limit bears, if it bears any.
