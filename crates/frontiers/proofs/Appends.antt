@@ -1,20 +1,20 @@
 -- What a row more does to the links and to what is held.
-use Rattle.std.proofs.Common.{◌≡◌, ℕ, ◌+◌, ◌<◌, ◌≤◌, Bool, List, [], ◌∷◌, ◌++◌, length, get_or, set, replicate, Some, None, Option, sym, refl, ap, ◌∙◌, subst, ⊎_elim, arith, get_or-set_other, get_or-set_same}
+use Rattle.std.proofs.Common.{◌≡◌, ℕ, ◌+◌, ◌<◌, ◌≤◌, List, [], ◌∷◌, ◌++◌, length, get_or, set, replicate, Some, None, Option, sym, refl, ap, ◌∙◌, subst, ⊎_elim, arith, get_or-set_other, get_or-set_same}
 use lib.ListN.{length-replicate}
 use Rattle.std.proofs.lemmas.List.{length_push}
 use Rattle.std.proofs.lemmas.Bool.{cases_eq}
 use Rattle.criteria.specs.Meaning.{Meaning, Laws}
 use Rattle.roads.specs.declared.road.Road.{Road}
 use Rattle.rows.specs.declared.row.Row.{Row}
-use Rattle.rows.specs.Places.{RowAt, pair_of}
-use Rattle.rows.proofs.Filter.{row_exists}
+use Rattle.rows.specs.Places.{pair_of}
 use Rattle.growth.specs.Growing.{Extends, Fresh, Next}
 use Rattle.growth.specs.Grown.{Grown}
 use Rattle.growth.proofs.Invariant as invariant
 use Rattle.growth.proofs.Orders.{ahead_trans}
 use Rattle.growth.proofs.Tables.{at_left, at_push}
 use Rattle.growth.proofs.Bounds.{few_roads}
-use Rattle.frontiers.specs.Frontiers.{Latest, Linked, Ready, Older, Newest, Standing, Sized, Passing, Chosen}
+use Rattle.frontiers.proofs.Links.{none_apart}
+use Rattle.frontiers.specs.Frontiers.{Latest, Linked, Ready, Older, Newest, Standing, Passing, Chosen}
 
 module _ {V W : Type 0} (rs : List (Row V W)) (c : Row V W) where
   -- among the first rows nothing changes
@@ -95,38 +95,35 @@ module _ {V W : Type 0} (a : Meaning V) (b : Meaning W) (roads : List Road) (bas
       }
 
   -- what other places hold is still the best of the older rows' extensions
-  pub older_from : (found : List Bool) (best : List (Row V W)) (place : ℕ) → c.end ≡ place → Ready a b roads base rs found best → Older a b roads base (rs ++ c ∷ []) place (length rs) found best
-  older_from found best place ends h p low other =
+  pub older_from : (best : List (Option (Row V W))) (place : ℕ) → c.end ≡ place → Ready a b roads base rs best → Older a b roads base (rs ++ c ∷ []) place (length rs) best
+  older_from best place ends h p low other =
       let k = h p low in
       record {
-        right = λ t z at. let (f, e, passing) = k.right t z at in (fresh_more z (λ same. other (sym e ∙ sym same ∙ ends)) f, e, passing);
+        right = λ z at. let (f, e, passing) = k.right z at in (fresh_more z (λ same. other (sym e ∙ sym same ∙ ends)) f, e, passing);
         first = λ z f s e. k.first z (fresh_less z f s) tt e;
       }
 
-  -- the row that is held where the choice fell is the best uncovered extension of all
-  pub chosen_next : (la : Laws a) (lb : Laws b) (found : List Bool) (best : List (Row V W)) (places place : ℕ) → Sized found best → Ready a b roads base rs found best → places ≤ 2048 → ((z : Row V W) → Fresh a b roads base rs z → z.end < places) → Chosen a b places found best (Some place) → RowAt best place c → Next a b roads base rs c × (c.end ≡ place) × Passing a b c
-  chosen_next la lb found best places place sized h small inside (low, t, on) at =
-      let (f, e, passing) = (h place (omega arith)).right t c at in (
+  -- the row that was chosen is the best uncovered extension of all
+  pub chosen_next : (la : Laws a) (lb : Laws b) (best : List (Option (Row V W))) (places : ℕ) → Ready a b roads base rs best → places ≤ 2048 → ((z : Row V W) → Fresh a b roads base rs z → z.end < places) → Chosen a b places best (Some c) → Next a b roads base rs c × (c.end < 2048) × Passing a b c
+  chosen_next la lb best places h small inside ((place, low, at), on) =
+      let (f, e, passing) = (h place (omega arith)).right c at in (
         record {
           fresh = f;
           best = λ q fq.
               let within = inside q fq in
-              let (tq, ahead) = (h q.end (omega arith)).first q fq tt refl in
-              let (d, at_d) = row_exists best q.end (omega (arith, sized.rows)) in
-              ahead_trans la lb (pair_of c) (pair_of d) (pair_of q) (on q.end c d within tq at at_d) (ahead d at_d);
+              let (d, held, ahead) = (h q.end (omega arith)).first q fq tt refl in
+              ahead_trans la lb (pair_of c) (pair_of d) (pair_of q) (on q.end d within held) ahead;
         },
-        e,
+        omega (arith, e),
         passing,
       )
 
 -- where no place holds anything, nothing is left
-pub chosen_none : {V W : Type 0} (a : Meaning V) (b : Meaning W) (roads : List Road) (base : ℕ) (rs : List (Row V W)) (found : List Bool) (best : List (Row V W)) (places : ℕ) → Ready a b roads base rs found best → places ≤ 2048 → ((z : Row V W) → Fresh a b roads base rs z → z.end < places) → Chosen a b places found best None → (z : Row V W) → Fresh a b roads base rs z → ⊥
-chosen_none a b roads base rs found best places h small inside none z f =
+pub chosen_none : {V W : Type 0} (a : Meaning V) (b : Meaning W) (roads : List Road) (base : ℕ) (rs : List (Row V W)) (best : List (Option (Row V W))) (places : ℕ) → Ready a b roads base rs best → places ≤ 2048 → ((z : Row V W) → Fresh a b roads base rs z → z.end < places) → Chosen a b places best None → (z : Row V W) → Fresh a b roads base rs z → ⊥
+chosen_none a b roads base rs best places h small inside none z f =
     let within = inside z f in
-    let (t, _) = (h z.end (omega arith)).first z f tt refl in
-    let e = none z.end within in
-    let w : ◌≡◌ {A = ℕ} 0 1 = cc in
-    omega arith
+    let (_, held, _) = (h z.end (omega arith)).first z f tt refl in
+    none_apart (sym (none z.end within) ∙ held)
 
 module _ {V W : Type 0} (a : Meaning V) (b : Meaning W) (roads : List Road) (base : ℕ) where
   -- extensions end at places of the network

@@ -1,5 +1,5 @@
 -- A sweep begins with the one row of the empty trip.
-use Rattle.std.proofs.Common.{◌≡◌, ℕ, ◌≤◌, false, List, [], ◌∷◌, length, get_or, set, replicate, Some, None, Option, sym, refl, ap, ◌∙◌, subst, arith}
+use Rattle.std.proofs.Common.{◌≡◌, ℕ, ◌≤◌, List, [], ◌∷◌, length, get_or, set, replicate, Some, None, Option, sym, refl, ap, ◌∙◌, subst, arith}
 use Rattle.std.proofs.lemmas.List.{get_or-replicate, length-replicate}
 use Rattle.criteria.specs.Meaning.{Meaning}
 use Rattle.roads.specs.declared.road.Road.{Road}
@@ -8,7 +8,7 @@ use Rattle.growth.specs.Complete.{EmptyRow}
 use Rattle.growth.proofs.Invariant as invariant
 use Rattle.frontiers.specs.Frontiers.{Latest, Linked, Standing, Founded}
 use Rattle.frontiers.proofs.Appends.{linked_more, newest_more}
-use Rattle.frontiers.proofs.Links.{apart}
+use Rattle.frontiers.proofs.Links.{none_apart}
 use Rattle.frontiers.proofs.Steps.{Forward}
 
 module _ {V W : Type 0} (a : Meaning V) (b : Meaning W) (roads : List Road) (places origin base room : ℕ) (h : Founded a b roads places origin base room) (some : 1 ≤ room) (r : Row V W) (e : EmptyRow a b origin r) where
@@ -46,19 +46,16 @@ module _ {V W : Type 0} (a : Meaning V) (b : Meaning W) (roads : List Road) (pla
   }
 
   -- it is written and linked, and nothing is held
-  pub begin_forward : (best : List (Row V W)) (prev : List (Option ℕ)) → length best ≡ 2048 → length prev ≡ 65536 → Forward a b roads places origin base (r ∷ []) 0 origin (replicate 2048 false) best (set (replicate 2048 None) origin (Some 0)) (set prev 0 (get_or (replicate 2048 None) origin None))
+  pub begin_forward : (prev : List (Option ℕ)) → length prev ≡ 65536 → Forward a b roads places origin base (r ∷ []) 0 origin (replicate 2048 None) (set (replicate 2048 None) origin (Some 0)) (set prev 0 (get_or (replicate 2048 None) origin None))
   unfolding first_standing
-  begin_forward best prev wide long = record {
+  begin_forward prev long = record {
     same_places = refl;
     same_origin = refl;
-    renewable = record {
-      standing = first_standing;
-      sized = record { flags = length-replicate 2048 false; rows = wide };
-      linked = linked_more [] r (replicate 2048 None) prev origin e.ends (omega (arith, h.inside, h.small)) (omega (arith, length-replicate {A = Option ℕ} 2048 None, h.inside, h.small)) (omega arith) (no_links prev);
-      added = newest_more a b roads base [] r origin e.ends (omega (arith, h.inside, h.small));
-      older = λ p low other. record {
-        right = λ t c at. apart t (get_or-replicate 2048 p false false low);
-        first = λ q f s same. absurd (omega arith);
-      };
+    standing = first_standing;
+    linked = linked_more [] r (replicate 2048 None) prev origin e.ends (omega (arith, h.inside, h.small)) (omega (arith, length-replicate {A = Option ℕ} 2048 None, h.inside, h.small)) (omega arith) (no_links prev);
+    added = newest_more a b roads base [] r origin e.ends (omega (arith, h.inside, h.small));
+    older = λ p low other. record {
+      right = λ c at. absurd (none_apart (sym (get_or-replicate 2048 p None None low) ∙ at));
+      first = λ q f s same. absurd (omega arith);
     };
   }

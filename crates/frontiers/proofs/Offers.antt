@@ -1,5 +1,5 @@
 -- What is held after an extension was offered.
-use Rattle.std.proofs.Common.{◌≡◌, ℕ, ◌+◌, ◌<◌, Bool, true, false, ◌⊎◌, List, length, get_or, set, None, MatchBool, Option, sym, refl, ap, ◌∙◌, subst, ⊎_elim, arith, length-set, get_or-set_other, get_or-set_same}
+use Rattle.std.proofs.Common.{◌≡◌, ℕ, ◌+◌, ◌<◌, Bool, true, false, ◌⊎◌, List, length, get_or, set, Some, None, MatchBool, Option, sym, refl, ap, ◌∙◌, subst, ⊎_elim, arith, length-set, get_or-set_other, get_or-set_same}
 use Rattle.std.proofs.lemmas.List.{get_or_default, get_or_read}
 use Rattle.trips.specs.Plans.{Numbered}
 use Rattle.criteria.specs.Covers.{Covers}
@@ -7,13 +7,12 @@ use Rattle.criteria.specs.Meaning.{Meaning, Laws}
 use Rattle.roads.specs.declared.road.Road.{Road}
 use Rattle.rows.specs.declared.row.Row.{Row}
 use Rattle.rows.specs.Places.{RowAt, pair_of}
-use Rattle.rows.proofs.Filter.{row_exists}
 use Rattle.growth.specs.Growing.{Ahead, Covered, Extends, Extension, Fresh}
 use Rattle.growth.specs.Grown.{Grown}
 use Rattle.growth.proofs.Orders.{covers_same, covers_ahead, ahead_trans}
 use Rattle.growth.proofs.Tables.{at_one}
-use Rattle.frontiers.specs.Frontiers.{Latest, Shown, Outdone, Foremost, Weighed, shadowed, outdone, held, Held, Built, Passing, Standing, Follows, Tried}
-use Rattle.frontiers.proofs.Links.{shown_covered}
+use Rattle.frontiers.specs.Frontiers.{Latest, Shown, Holds, Outdone, Foremost, Weighed, shadowed, outdone, held, Held, Built, Passing, Standing, Follows, Tried}
+use Rattle.frontiers.proofs.Links.{shown_covered, same_row}
 
 -- the row that was read stands where it was read
 pub row_read : {V W : Type 0} (rs : List (Row V W)) (i : ℕ) (x : Row V W) → i < length rs → x ≡ get_or rs i x → RowAt rs i x
@@ -25,9 +24,9 @@ road_read roads j d h = (h, λ d'. get_or_default roads j d' d h)
 
 module _ {V W : Type 0} (a : Meaning V) (b : Meaning W) where
   -- what the comparison with the held row says
-  pub outdone_when : (q : Row V W) (found : List Bool) (best : List (Row V W)) (x : Row V W) (r : Bool) → get_or found q.end false ≡ true → MatchBool r (Ahead a b (pair_of (get_or best q.end x)) (pair_of q)) (Ahead a b (pair_of q) (pair_of (get_or best q.end x))) → MatchBool r (Outdone a b q found best) (Foremost a b q found best)
-  outdone_when q found best x true t h = record { held = t; ahead = λ c (_, is). subst (λ z. Ahead a b (pair_of z) (pair_of q)) (is x) h }
-  outdone_when q found best x false t h = record { ahead = λ _ c (_, is). subst (λ z. Ahead a b (pair_of q) (pair_of z)) (is x) h }
+  pub outdone_when : (q : Row V W) (best : List (Option (Row V W))) (x : Row V W) (r : Bool) → Holds best q.end x → MatchBool r (Ahead a b (pair_of x) (pair_of q)) (Ahead a b (pair_of q) (pair_of x)) → MatchBool r (Outdone a b q best) (Foremost a b q best)
+  outdone_when q best x true holds h = record { row = x; held = holds; ahead = h }
+  outdone_when q best x false holds h = record { ahead = λ c at. subst (λ z. Ahead a b (pair_of q) (pair_of z)) (same_row (sym holds ∙ at)) h }
 
   module _ (la : Laws a) (lb : Laws b) (roads : List Road) (base : ℕ) (rs : List (Row V W)) where
     -- two extensions of one row by one road have the same values and the same end
@@ -44,17 +43,17 @@ module _ {V W : Type 0} (a : Meaning V) (b : Meaning W) where
     covered_same q z pairs ends c = record { index = c.index; row = c.row; stands = c.stands; place = c.place ∙ sym ends; covers = subst (λ w. Covers a b (pair_of c.row) w) (sym pairs) c.covers }
 
     -- nothing is offered, and nothing more is seen
-    pub held_still : (found : List Bool) (best : List (Row V W)) (seen seen' : ℕ → ℕ → Type 0) (place : ℕ) → ((z : Row V W) (f : Fresh a b roads base rs z) → seen' f.index f.number → z.end ≡ place → seen f.index f.number) → Held a b roads base rs found best seen place → Held a b roads base rs found best seen' place
-    held_still found best seen seen' place less h = record { right = h.right; first = λ z f s e. h.first z f (less z f s e) e }
+    pub held_still : (best : List (Option (Row V W))) (seen seen' : ℕ → ℕ → Type 0) (place : ℕ) → ((z : Row V W) (f : Fresh a b roads base rs z) → seen' f.index f.number → z.end ≡ place → seen f.index f.number) → Held a b roads base rs best seen place → Held a b roads base rs best seen' place
+    held_still best seen seen' place less h = record { right = h.right; first = λ z f s e. h.first z f (less z f s e) e }
 
     -- another place keeps what it holds
-    pub held_apart : (found found' : List Bool) (best best' : List (Row V W)) (seen : ℕ → ℕ → Type 0) (place : ℕ) → get_or found' place false ≡ get_or found place false → ((c : Row V W) → RowAt best' place c → RowAt best place c) → Held a b roads base rs found best seen place → Held a b roads base rs found' best' seen place
-    held_apart found found' best best' seen place same_found same_best h = record {
-      right = λ t c at. h.right (sym same_found ∙ t) c (same_best c at);
-      first = λ z f s e. let (t, on) = h.first z f s e in (same_found ∙ t, λ c at. on c (same_best c at));
+    pub held_apart : (best best' : List (Option (Row V W))) (seen : ℕ → ℕ → Type 0) (place : ℕ) → get_or best' place None ≡ get_or best place None → Held a b roads base rs best seen place → Held a b roads base rs best' seen place
+    held_apart best best' seen place same h = record {
+      right = λ c at. h.right c (sym same ∙ at);
+      first = λ z f s e. let (c, at, on) = h.first z f s e in (c, same ∙ at, on);
     }
 
-    module _ (origin : ℕ) (front : List (Row V W)) (long : length front ≡ base) (g : Grown a b roads origin front rs) (i j : ℕ) (p : Row V W) (r : Road) (q : Row V W) (e : Extends a b roads base rs i p j r q) (found : List Bool) (best : List (Row V W)) (found' : List Bool) (best' : List (Row V W)) (o : Option ℕ) (latest : Latest rs (length rs) q.end o) (wide : q.end < length found) (wide' : q.end < length best) (w : Weighed a b rs q o found best found' best') (passing : Passing a b q) where
+    module _ (origin : ℕ) (front : List (Row V W)) (long : length front ≡ base) (g : Grown a b roads origin front rs) (i j : ℕ) (p : Row V W) (r : Road) (q : Row V W) (e : Extends a b roads base rs i p j r q) (best best' : List (Option (Row V W))) (o : Option ℕ) (latest : Latest rs (length rs) q.end o) (wide : q.end < length best) (w : Weighed a b rs q o best best') (passing : Passing a b q) where
       -- q is an extension of one of the rows
       extension : Extension a b roads (length front) rs q
       extension = subst (λ n. Extension a b roads n rs q) (sym long) (record { index = i; row = p; number = j; road = r; extends = e })
@@ -67,9 +66,9 @@ module _ {V W : Type 0} (a : Meaning V) (b : Meaning W) where
       alike : (z : Row V W) (f : Fresh a b roads base rs z) → f.index ≡ i → f.number ≡ j → (pair_of z ≡ pair_of q) × (z.end ≡ q.end)
       alike z f ik jl = same_extension i j f.index f.number p f.row r f.road q z e f.extends ik jl
 
-      module _ (seen seen' : ℕ → ℕ → Type 0) (more : (z : Row V W) (f : Fresh a b roads base rs z) → seen' f.index f.number → z.end ≡ q.end → seen f.index f.number ⊎ ((f.index ≡ i) × (f.number ≡ j))) (h : Held a b roads base rs found best seen q.end) where
+      module _ (seen seen' : ℕ → ℕ → Type 0) (more : (z : Row V W) (f : Fresh a b roads base rs z) → seen' f.index f.number → z.end ≡ q.end → seen f.index f.number ⊎ ((f.index ≡ i) × (f.number ≡ j))) (h : Held a b roads base rs best seen q.end) where
         -- q is covered
-        when_shadowed : Shown b rs q o true → Held a b roads base rs found best seen' q.end
+        when_shadowed : Shown b rs q o true → Held a b roads base rs best seen' q.end
         when_shadowed s = record {
           right = h.right;
           first = λ z f sn ez. ⊎_elim
@@ -79,68 +78,64 @@ module _ {V W : Type 0} (a : Meaning V) (b : Meaning W) where
         }
 
         -- what is held is as good
-        when_outdone : Outdone a b q found best → Held a b roads base rs found best seen' q.end
+        when_outdone : Outdone a b q best → Held a b roads base rs best seen' q.end
         when_outdone d = record {
           right = h.right;
           first = λ z f sn ez. ⊎_elim
               (λ old. h.first z f old ez)
-              (λ (ik, jl). let (pairs, _) = alike z f ik jl in (d.held, λ c at. subst (λ x. Ahead a b (pair_of c) x) (sym pairs) (d.ahead c at)))
+              (λ (ik, jl). let (pairs, _) = alike z f ik jl in (d.row, d.held, subst (λ x. Ahead a b (pair_of d.row) x) (sym pairs) d.ahead))
               (more z f sn ez);
         }
 
         -- q is held
-        when_held : Shown b rs q o false → Foremost a b q found best → Held a b roads base rs (set found q.end true) (set best q.end q) seen' q.end
+        when_held : Shown b rs q o false → Foremost a b q best → Held a b roads base rs (set best q.end (Some q)) seen' q.end
         when_held s d =
-            let now_found : get_or (set found q.end true) q.end false ≡ true = get_or-set_same found q.end true false wide in
-            let is_q : (c : Row V W) → RowAt (set best q.end q) q.end c → c ≡ q = λ c (_, is). sym (is c) ∙ get_or-set_same best q.end q c wide' in
+            let now : Holds (set best q.end (Some q)) q.end q = get_or-set_same best q.end (Some q) None wide in
             record {
-              right = λ _ c at. (subst (λ x. Fresh a b roads base rs x) (sym (is_q c at)) (record { index = i; row = p; number = j; road = r; extends = e; uncovered = (covers_if false s).1 refl }), ap (λ x. x.end) (is_q c at), subst (Passing a b) (sym (is_q c at)) passing);
+              right = λ c at.
+                  let is : q ≡ c = same_row (sym now ∙ at) in
+                  (subst (λ x. Fresh a b roads base rs x) is (record { index = i; row = p; number = j; road = r; extends = e; uncovered = (covers_if false s).1 refl }), ap (λ x. x.end) (sym is), subst (Passing a b) is passing);
               first = λ z f sn ez. (
-                now_found,
-                λ c at. subst (λ x. Ahead a b (pair_of x) (pair_of z)) (sym (is_q c at)) (⊎_elim
-                    (λ old.
-                    let (t, on) = h.first z f old ez in
-                    let (c', at') = row_exists best q.end wide' in
-                    ahead_trans la lb (pair_of q) (pair_of c') (pair_of z) (d.ahead t c' at') (on c' at'))
+                q,
+                now,
+                ⊎_elim
+                    (λ old. let (c, at, on) = h.first z f old ez in ahead_trans la lb (pair_of q) (pair_of c) (pair_of z) (d.ahead c at) on)
                     (λ (ik, jl). let (pairs, _) = alike z f ik jl in subst (λ x. Ahead a b (pair_of q) x) (sym pairs) (covers_ahead la lb (pair_of q) (pair_of q) (covers_same la lb (pair_of q))))
-                    (more z f sn ez)),
+                    (more z f sn ez),
               );
             }
 
         -- what the place of q holds then
-        pub held_here : Held a b roads base rs found' best' seen' q.end
+        pub held_here : Held a b roads base rs best' seen' q.end
         held_here =
             elim w [
-              | shadowed ef eb s ↦ subst (λ x. Held a b roads base rs x best' seen' q.end) (sym ef) (subst (λ x. Held a b roads base rs found x seen' q.end) (sym eb) (when_shadowed s))
-              | outdone ef eb s d ↦ subst (λ x. Held a b roads base rs x best' seen' q.end) (sym ef) (subst (λ x. Held a b roads base rs found x seen' q.end) (sym eb) (when_outdone d))
-              | held ef eb s d ↦ subst (λ x. Held a b roads base rs x best' seen' q.end) (sym ef) (subst (λ x. Held a b roads base rs (set found q.end true) x seen' q.end) (sym eb) (when_held s d))
+              | shadowed eb s ↦ subst (λ x. Held a b roads base rs x seen' q.end) (sym eb) (when_shadowed s)
+              | outdone eb s d ↦ subst (λ x. Held a b roads base rs x seen' q.end) (sym eb) (when_outdone d)
+              | held eb s d ↦ subst (λ x. Held a b roads base rs x seen' q.end) (sym eb) (when_held s d)
             ]
 
       -- and what every other place holds stays
-      pub kept : (place : ℕ) → (place ≡ q.end → ⊥) → (get_or found' place false ≡ get_or found place false) × ((c : Row V W) → RowAt best' place c → RowAt best place c)
+      pub kept : (place : ℕ) → (place ≡ q.end → ⊥) → get_or best' place None ≡ get_or best place None
       kept place other =
           elim w [
-            | shadowed ef eb s ↦ (ap (λ l. get_or l place false) ef, λ c at. subst (λ l. RowAt l place c) eb at)
-            | outdone ef eb s d ↦ (ap (λ l. get_or l place false) ef, λ c at. subst (λ l. RowAt l place c) eb at)
-            | held ef eb s d ↦ (
-              ap (λ l. get_or l place false) ef ∙ get_or-set_other found q.end place true false other,
-              λ c at. let (h, is) = subst (λ l. RowAt l place c) eb at in (omega (arith, length-set best q.end q), λ x. sym (get_or-set_other best q.end place q x other) ∙ is x),
-            )
+            | shadowed eb s ↦ ap (λ l. get_or l place None) eb
+            | outdone eb s d ↦ ap (λ l. get_or l place None) eb
+            | held eb s d ↦ ap (λ l. get_or l place None) eb ∙ get_or-set_other best q.end place (Some q) None other
           ]
 
   -- an extension of a row by a road of the network ends at one of its places
   pub ends_low : (roads : List Road) (base : ℕ) (rs : List (Row V W)) (j from number : ℕ) (p : Row V W) (r : Road) (q : Row V W) → Standing a b roads base rs → Numbered roads j r → Built a b p r from number q → q.end < 2048
   ends_low roads base rs j from number p r q s n w = omega (arith, (s.named j r n).ends, s.small, w.ends)
 
-  -- an offer keeps the lengths
-  pub weighed_lengths : (rs : List (Row V W)) (q : Row V W) (o : Option ℕ) (found : List Bool) (best : List (Row V W)) (found' : List Bool) (best' : List (Row V W)) → Weighed a b rs q o found best found' best' → (length found' ≡ length found) × (length best' ≡ length best)
-  weighed_lengths rs q o found best found' best' (shadowed ef eb s) = (ap length ef, ap length eb)
-  weighed_lengths rs q o found best found' best' (outdone ef eb s d) = (ap length ef, ap length eb)
-  weighed_lengths rs q o found best found' best' (held ef eb s d) = (ap length ef ∙ length-set found q.end true, ap length eb ∙ length-set best q.end q)
+  -- an offer keeps the length
+  pub weighed_length : (rs : List (Row V W)) (q : Row V W) (o : Option ℕ) (best best' : List (Option (Row V W))) → Weighed a b rs q o best best' → length best' ≡ length best
+  weighed_length rs q o best best' (shadowed eb s) = ap length eb
+  weighed_length rs q o best best' (outdone eb s d) = ap length eb
+  weighed_length rs q o best best' (held eb s d) = ap length eb ∙ length-set best q.end (Some q)
 
   -- the row of index i with road j behind it was offered
-  pub tried_by : (roads : List Road) (base : ℕ) (rs : List (Row V W)) (i j : ℕ) (p : Row V W) (r : Road) (q : Row V W) (last : List (Option ℕ)) (found : List Bool) (best : List (Row V W)) (found' : List Bool) (best' : List (Row V W)) → Follows a b roads rs i j → RowAt rs i p → Numbered roads j r → Built a b p r (base + i) j q → q.end < 2048 → Passing a b q → Weighed a b rs q (get_or last q.end None) found best found' best' → Tried a b roads base rs i j last found best found' best'
-  tried_by roads base rs i j p r q last found best found' best' f at n w low passing weighed =
+  pub tried_by : (roads : List Road) (base : ℕ) (rs : List (Row V W)) (i j : ℕ) (p : Row V W) (r : Road) (q : Row V W) (last : List (Option ℕ)) (best best' : List (Option (Row V W))) → Follows a b roads rs i j → RowAt rs i p → Numbered roads j r → Built a b p r (base + i) j q → q.end < 2048 → Passing a b q → Weighed a b rs q (get_or last q.end None) best best' → Tried a b roads base rs i j last best best'
+  tried_by roads base rs i j p r q last best best' f at n w low passing weighed =
       let (free, starts) = f.meets p r at n in
       record {
         row = p;

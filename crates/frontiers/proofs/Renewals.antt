@@ -1,5 +1,5 @@
 -- One road more is seen again.
-use Rattle.std.proofs.Common.{◌≡◌, ℕ, ◌+◌, ◌<◌, Bool, true, false, ◌⊎◌, List, length, get_or, set, replicate, None, Option, sym, refl, ap, ◌∙◌, subst, inl, inr, ⊎_elim, arith, get_or-set_other, get_or-set_same}
+use Rattle.std.proofs.Common.{◌≡◌, ℕ, ◌+◌, ◌<◌, true, false, ◌⊎◌, List, length, get_or, set, replicate, None, Option, sym, refl, ap, ◌∙◌, subst, inl, inr, ⊎_elim, arith, get_or-set_other, get_or-set_same}
 use lib.ListN.{length-replicate}
 use Rattle.std.proofs.lemmas.Bool.{cases_lt, cases_eq}
 use Rattle.criteria.specs.Meaning.{Meaning, Laws}
@@ -8,7 +8,8 @@ use Rattle.rows.specs.declared.row.Row.{Row}
 use Rattle.rows.specs.Places.{RowAt}
 use Rattle.growth.specs.Growing.{Fresh}
 use Rattle.trips.specs.Plans.{Numbered}
-use Rattle.frontiers.specs.Frontiers.{Linked, Held, Standing, Tried, Enters, Follows, Kept, Sized, Renewed, Newest, Older, Ready}
+use Rattle.frontiers.specs.Frontiers.{Linked, Held, Standing, Tried, Enters, Follows, Kept, Renewed, Newest, Older, Ready}
+use Rattle.frontiers.proofs.Links.{none_apart}
 use Rattle.frontiers.proofs.Offers.{held_still, held_apart, held_here, kept}
 
 module _ {V W : Type 0} (a : Meaning V) (b : Meaning W) (la : Laws a) (lb : Laws b) (roads : List Road) (base : ℕ) (rs : List (Row V W)) (j place newest : ℕ) (r : Road) (n : Numbered roads j r) (new : Newest a b rs newest place) where
@@ -25,21 +26,21 @@ module _ {V W : Type 0} (a : Meaning V) (b : Meaning W) (la : Laws a) (lb : Laws
   unfolding Seen
   one_more p i k s = ⊎_elim (λ lt. ⊎_elim (λ low. inl (inl low)) (λ high. inr (omega arith)) (cases_lt k j)) (λ old. inl (inr old)) s
 
-  module _ (found : List Bool) (best : List (Row V W)) (h : Renewed a b roads base rs place newest found best j) where
+  module _ (best : List (Option (Row V W))) (h : Renewed a b roads base rs place newest best j) where
     -- nothing is offered: no extension by the road needs to be
-    pub renewed_still : ((p : ℕ) (z : Row V W) (f : Fresh a b roads base rs z) → f.number ≡ j → z.end ≡ p → (p ≡ place → ⊥) × (f.index < newest)) → Renewed a b roads base rs place newest found best (j + 1)
+    pub renewed_still : ((p : ℕ) (z : Row V W) (f : Fresh a b roads base rs z) → f.number ≡ j → z.end ≡ p → (p ≡ place → ⊥) × (f.index < newest)) → Renewed a b roads base rs place newest best (j + 1)
     unfolding Seen
     renewed_still none p low =
-        held_still a b la lb roads base rs found best (Seen p j) (Seen p (j + 1)) p
+        held_still a b la lb roads base rs best (Seen p j) (Seen p (j + 1)) p
         (λ z f s e. ⊎_elim (λ old. old) (λ same. inr (none p z f same e)) (one_more p f.index f.number s))
         (h p low)
 
     -- the road is shut
-    pub renewed_shut : r.«open» ≡ false → Renewed a b roads base rs place newest found best (j + 1)
+    pub renewed_shut : r.«open» ≡ false → Renewed a b roads base rs place newest best (j + 1)
     renewed_shut shut = renewed_still (λ p z f same e. let free = f.extends.free in let is = ap (λ x. x.«open») (road_is z f same) in let z' : ◌≡◌ {A = ℕ} 0 1 = cc in absurd (omega arith))
 
     -- the road neither starts nor ends at the place
-    pub renewed_apart : (r.end ≡ place → ⊥) → (r.start ≡ place → ⊥) → Renewed a b roads base rs place newest found best (j + 1)
+    pub renewed_apart : (r.end ≡ place → ⊥) → (r.start ≡ place → ⊥) → Renewed a b roads base rs place newest best (j + 1)
     renewed_apart ends starts = renewed_still (λ p z f same e.
         let is = road_is z f same in (
           λ here. ends (ap (λ x. x.end) (sym is) ∙ sym f.extends.ends ∙ e ∙ here),
@@ -51,26 +52,26 @@ module _ {V W : Type 0} (a : Meaning V) (b : Meaning W) (la : Laws a) (lb : Laws
         ))
 
     -- what the place holds before its road is seen
-    pub held_before : Held a b roads base rs found best (λ _ k. k < j) place
+    pub held_before : Held a b roads base rs best (λ _ k. k < j) place
     unfolding Seen
-    held_before = held_still a b la lb roads base rs found best (Seen place j) (λ _ k. k < j) place (λ z f s e. inl s) (h place new.low)
+    held_before = held_still a b la lb roads base rs best (Seen place j) (λ _ k. k < j) place (λ z f s e. inl s) (h place new.low)
 
-    module _ (found' : List Bool) (best' : List (Row V W)) where
+    module _ (best' : List (Option (Row V W))) where
       -- every row was offered with a road that ends at the place
-      pub renewed_entered : r.end ≡ place → Kept a b place found best found' best' → Held a b roads base rs found' best' (λ _ k. k < j + 1) place → Renewed a b roads base rs place newest found' best' (j + 1)
+      pub renewed_entered : r.end ≡ place → Kept a b place best best' → Held a b roads base rs best' (λ _ k. k < j + 1) place → Renewed a b roads base rs place newest best' (j + 1)
       unfolding Seen
       renewed_entered ends keep here p low =
           ⊎_elim
-          (λ is. subst (λ x. Held a b roads base rs found' best' (Seen x (j + 1)) x) (sym is)
-          (held_still a b la lb roads base rs found' best' (λ _ k. k < j + 1) (Seen place (j + 1)) place (λ z f s e. ⊎_elim (λ lt. lt) (λ (other, _). absurd (other refl)) s) here))
+          (λ is. subst (λ x. Held a b roads base rs best' (Seen x (j + 1)) x) (sym is)
+          (held_still a b la lb roads base rs best' (λ _ k. k < j + 1) (Seen place (j + 1)) place (λ z f s e. ⊎_elim (λ lt. lt) (λ (other, _). absurd (other refl)) s) here))
           (λ other.
-          held_still a b la lb roads base rs found' best' (Seen p j) (Seen p (j + 1)) p
+          held_still a b la lb roads base rs best' (Seen p j) (Seen p (j + 1)) p
           (λ z f s e. ⊎_elim (λ old. old) (λ same. absurd (other (sym e ∙ f.extends.ends ∙ ap (λ x. x.end) (road_is z f same) ∙ ends))) (one_more p f.index f.number s))
-          (held_apart a b la lb roads base rs found found' best best' (Seen p j) p (keep.flag p other) (λ c at. keep.row p c other at) (h p low)))
+          (held_apart a b la lb roads base rs best best' (Seen p j) p (keep.row p other) (h p low)))
           (cases_eq p place)
 
       -- the newest row was offered with a road that starts at its place
-      pub renewed_left : Standing a b roads base rs → (last prev : List (Option ℕ)) → Linked rs last prev → Sized found best → r.start ≡ place → (r.end ≡ place → ⊥) → Tried a b roads base rs newest j last found best found' best' → Renewed a b roads base rs place newest found' best' (j + 1)
+      pub renewed_left : Standing a b roads base rs → (last prev : List (Option ℕ)) → Linked rs last prev → length best ≡ 2048 → r.start ≡ place → (r.end ≡ place → ⊥) → Tried a b roads base rs newest j last best best' → Renewed a b roads base rs place newest best' (j + 1)
       unfolding Seen
       renewed_left st last prev links sized starts away t p low =
           let e = t.extends in
@@ -79,11 +80,10 @@ module _ {V W : Type 0} (a : Meaning V) (b : Meaning W) (la : Laws a) (lb : Laws
           let q_ends : q.end ≡ r.end = e.ends ∙ ap (λ x. x.end) is in
           let front = replicate base t.row in
           let long : length front ≡ base = length-replicate base t.row in
-          let wide : q.end < length found = omega (arith, t.within, sized.flags) in
-          let wide' : q.end < length best = omega (arith, t.within, sized.rows) in
+          let wide : q.end < length best = omega (arith, t.within, sized) in
           ⊎_elim
-          (λ same. subst (λ x. Held a b roads base rs found' best' (Seen x (j + 1)) x) (sym same)
-          (held_here a b la lb roads base rs st.origin front long (st.grown front long) newest j t.row t.road q e found best found' best' (get_or last q.end None) (links.latest q.end t.within) wide wide' t.weighed t.passing (Seen q.end j) (Seen q.end (j + 1))
+          (λ same. subst (λ x. Held a b roads base rs best' (Seen x (j + 1)) x) (sym same)
+          (held_here a b la lb roads base rs st.origin front long (st.grown front long) newest j t.row t.road q e best best' (get_or last q.end None) (links.latest q.end t.within) wide t.weighed t.passing (Seen q.end j) (Seen q.end (j + 1))
           (λ z f s ez. ⊎_elim (λ old. inl old)
           (λ by_j. ⊎_elim
           (λ older. inl (inr (λ here. away (sym q_ends ∙ here), older)))
@@ -92,10 +92,10 @@ module _ {V W : Type 0} (a : Meaning V) (b : Meaning W) (la : Laws a) (lb : Laws
           (one_more q.end f.index f.number s))
           (h q.end t.within)))
           (λ other.
-          let (flag, row) = kept a b la lb roads base rs st.origin front long (st.grown front long) newest j t.row t.road q e found best found' best' (get_or last q.end None) (links.latest q.end t.within) wide wide' t.weighed t.passing p other in
-          held_still a b la lb roads base rs found' best' (Seen p j) (Seen p (j + 1)) p
+          let same = kept a b la lb roads base rs st.origin front long (st.grown front long) newest j t.row t.road q e best best' (get_or last q.end None) (links.latest q.end t.within) wide t.weighed t.passing p other in
+          held_still a b la lb roads base rs best' (Seen p j) (Seen p (j + 1)) p
           (λ z f s ez. ⊎_elim (λ old. old) (λ same. absurd (other (sym ez ∙ f.extends.ends ∙ ap (λ x. x.end) (road_is z f same) ∙ sym q_ends))) (one_more p f.index f.number s))
-          (held_apart a b la lb roads base rs found found' best best' (Seen p j) p flag row (h p low)))
+          (held_apart a b la lb roads base rs best best' (Seen p j) p same (h p low)))
           (cases_eq p q.end)
 
 -- the road may be driven behind the newest row
@@ -110,29 +110,22 @@ newest_follows a b roads rs j place newest r n new free starts = record {
 pub enters_by : {V W : Type 0} (a : Meaning V) (b : Meaning W) (roads : List Road) (j place : ℕ) (r : Road) → Numbered roads j r → r.«open» ≡ true → r.end ≡ place → Enters a b roads j place
 enters_by a b roads j place r n free ends = (n.0, λ q nq. let is = sym (nq.1 r) ∙ n.1 r in (ap (λ x. x.«open») is ∙ free, ap (λ x. x.end) is ∙ ends))
 
--- how far the roads have been seen again, with the links as they were
-pub record Renewing {V W : Type 0} (a : Meaning V) (b : Meaning W) (roads : List Road) (base : ℕ) (rs : List (Row V W)) (place newest j : ℕ) (last prev last₀ prev₀ : List (Option ℕ)) (found : List Bool) (best : List (Row V W)) : Type 0 where
-  pub renewed : Renewed a b roads base rs place newest found best j
-  pub sized : Sized found best
-  pub same_last : last ≡ last₀
-  pub same_prev : prev ≡ prev₀
-
 module _ {V W : Type 0} (a : Meaning V) (b : Meaning W) (la : Laws a) (lb : Laws b) (roads : List Road) (base : ℕ) (rs : List (Row V W)) (place newest : ℕ) (new : Newest a b rs newest place) where
   -- before any road is seen again, the place holds nothing
-  pub renewed_none : (found : List Bool) (best : List (Row V W)) → Sized found best → Older a b roads base rs place newest found best → Renewed a b roads base rs place newest (set found place false) best 0
-  renewed_none found best sized older p low =
+  pub renewed_none : (best : List (Option (Row V W))) → length best ≡ 2048 → Older a b roads base rs place newest best → Renewed a b roads base rs place newest (set best place None) 0
+  renewed_none best sized older p low =
       ⊎_elim
       (λ is.
-      let empty : get_or (set found place false) p false ≡ false = ap (λ x. get_or (set found place false) x false) is ∙ get_or-set_same found place false false (omega (arith, sized.flags, new.low)) in
+      let empty : get_or (set best place None) p None ≡ None = ap (λ x. get_or (set best place None) x None) is ∙ get_or-set_same best place None None (omega (arith, sized, new.low)) in
       record {
-        right = λ t c at. let z : ◌≡◌ {A = ℕ} 0 1 = cc in absurd (omega arith);
+        right = λ c at. absurd (none_apart (sym empty ∙ at));
         first = λ z f s e. absurd (⊎_elim (λ lt. omega arith) (λ (other, _). other is) s);
       })
       (λ other.
-      held_apart a b la lb roads base rs found (set found place false) best best (λ i k. (k < 0) ⊎ ((p ≡ place → ⊥) × (i < newest))) p (get_or-set_other found place p false false other) (λ c at. at)
-      (held_still a b la lb roads base rs found best (λ i _. i < newest) (λ i k. (k < 0) ⊎ ((p ≡ place → ⊥) × (i < newest))) p (λ z f s e. ⊎_elim (λ lt. absurd (omega arith)) (λ (_, lt). lt) s) (older p low other)))
+      held_apart a b la lb roads base rs best (set best place None) (λ i k. (k < 0) ⊎ ((p ≡ place → ⊥) × (i < newest))) p (get_or-set_other best place p None None other)
+      (held_still a b la lb roads base rs best (λ i _. i < newest) (λ i k. (k < 0) ⊎ ((p ≡ place → ⊥) × (i < newest))) p (λ z f s e. ⊎_elim (λ lt. absurd (omega arith)) (λ (_, lt). lt) s) (older p low other)))
       (cases_eq p place)
 
   -- once all roads are seen again, every place is ready
-  pub renewed_all : (found : List Bool) (best : List (Row V W)) → Renewed a b roads base rs place newest found best (length roads) → Ready a b roads base rs found best
-  renewed_all found best h p low = held_still a b la lb roads base rs found best (λ i k. (k < length roads) ⊎ ((p ≡ place → ⊥) × (i < newest))) (λ _ _. Unit {0}) p (λ z f s e. inl f.extends.road.0) (h p low)
+  pub renewed_all : (best : List (Option (Row V W))) → Renewed a b roads base rs place newest best (length roads) → Ready a b roads base rs best
+  renewed_all best h p low = held_still a b la lb roads base rs best (λ i k. (k < length roads) ⊎ ((p ≡ place → ⊥) × (i < newest))) (λ _ _. Unit {0}) p (λ z f s e. inl f.extends.road.0) (h p low)

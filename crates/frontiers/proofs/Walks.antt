@@ -1,15 +1,14 @@
 -- All rows at the start of a road are offered, from the last to the first.
-use Rattle.std.proofs.Common.{◌≡◌, ℕ, suc, ◌+◌, ◌<◌, ◌≤◌, Bool, false, ◌⊎◌, List, length, get_or, replicate, Some, None, Option, sym, refl, ap, ◌∙◌, subst, inl, inr, ⊎_elim, arith}
+use Rattle.std.proofs.Common.{◌≡◌, ℕ, suc, ◌+◌, ◌<◌, ◌≤◌, ◌⊎◌, List, length, get_or, replicate, Some, None, Option, sym, refl, ap, ◌∙◌, subst, inl, inr, ⊎_elim, arith}
 use lib.ListN.{length-replicate}
 use Rattle.std.proofs.lemmas.Bool.{cases_lt}
 use Rattle.criteria.specs.Meaning.{Meaning, Laws}
 use Rattle.roads.specs.declared.road.Road.{Road}
 use Rattle.rows.specs.declared.row.Row.{Row}
-use Rattle.rows.specs.Places.{RowAt}
 use Rattle.growth.specs.Growing.{Fresh}
 use Rattle.trips.specs.Plans.{Numbered}
 use Rattle.frontiers.specs.Frontiers.{Latest, Linked, Held, Standing, Tried, Enters, Kept, Follows}
-use Rattle.frontiers.proofs.Offers.{held_still, held_here, kept, weighed_lengths}
+use Rattle.frontiers.proofs.Offers.{held_still, held_here, kept, weighed_length}
 
 -- how many steps are left at most
 abbrev pub left_of : Option ℕ → ℕ
@@ -21,37 +20,29 @@ abbrev pub Walked : ℕ → ℕ → ℕ → ℕ → Type 0
 Walked j m i k = (k < j) ⊎ ((k ≡ j) × (m ≤ i))
 
 module _ {V W : Type 0} (a : Meaning V) (b : Meaning W) (roads : List Road) (base : ℕ) (rs : List (Row V W)) (j place start : ℕ) where
-  -- how far the walk has come, from what found₀ and best₀ were
-  pub record Walking (at : Option ℕ) (last prev last₀ prev₀ : List (Option ℕ)) (found₀ : List Bool) (best₀ : List (Row V W)) (found : List Bool) (best : List (Row V W)) : Type 0 where
+  -- how far the walk has come, from what best₀ was
+  pub record Walking (at : Option ℕ) (best₀ best : List (Option (Row V W))) : Type 0 where
     pub top : ℕ
     pub latest : Latest rs top start at
     pub within : top ≤ length rs
-    pub holds : Held a b roads base rs found best (Walked j top) place
-    pub others : Kept a b place found₀ best₀ found best
-    pub same_last : last ≡ last₀
-    pub same_prev : prev ≡ prev₀
-
--- the same of a row number that is equal
-pub walking_same : {V W : Type 0} {a : Meaning V} {b : Meaning W} {roads : List Road} {base : ℕ} {rs : List (Row V W)} {j place start : ℕ} {at at' : Option ℕ} {last prev last₀ prev₀ : List (Option ℕ)} {found₀ : List Bool} {best₀ : List (Row V W)} {found : List Bool} {best : List (Row V W)} → at ≡ at' → Walking a b roads base rs j place start at last prev last₀ prev₀ found₀ best₀ found best → Walking a b roads base rs j place start at' last prev last₀ prev₀ found₀ best₀ found best
-walking_same {a = a} {b = b} {roads = roads} {base = base} {rs = rs} {j = j} {place = place} {start = start} {last = last} {prev = prev} {last₀ = last₀} {prev₀ = prev₀} {found₀ = found₀} {best₀ = best₀} {found = found} {best = best} e w = subst (λ o. Walking a b roads base rs j place start o last prev last₀ prev₀ found₀ best₀ found best) e w
+    pub holds : Held a b roads base rs best (Walked j top) place
+    pub others : Kept a b place best₀ best
 
 module _ {V W : Type 0} (a : Meaning V) (b : Meaning W) (la : Laws a) (lb : Laws b) (roads : List Road) (base : ℕ) (rs : List (Row V W)) (j place : ℕ) (r : Road) (n : Numbered roads j r) (ends : r.end ≡ place) where
   -- the walk begins at the last row
-  pub walk_start : (at : Option ℕ) (last prev : List (Option ℕ)) (found : List Bool) (best : List (Row V W)) → Latest rs (length rs) r.start at → Held a b roads base rs found best (λ _ k. k < j) place → Walking a b roads base rs j place r.start at last prev last prev found best found best
-  walk_start at last prev found best l h = record {
+  pub walk_start : (at : Option ℕ) (best : List (Option (Row V W))) → Latest rs (length rs) r.start at → Held a b roads base rs best (λ _ k. k < j) place → Walking a b roads base rs j place r.start at best best
+  walk_start at best l h = record {
     top = length rs;
     latest = l;
     within = omega arith;
-    holds = held_still a b la lb roads base rs found best (λ _ k. k < j) (Walked j (length rs)) place (λ z f s e. ⊎_elim (λ lt. lt) (λ (_, high). absurd (omega (arith, f.extends.row.0))) s) h;
-    others = record { flag = λ p other. refl; row = λ p c other at_c. at_c; flags = refl; rows = refl };
-    same_last = refl;
-    same_prev = refl;
+    holds = held_still a b la lb roads base rs best (λ _ k. k < j) (Walked j (length rs)) place (λ z f s e. ⊎_elim (λ lt. lt) (λ (_, high). absurd (omega (arith, f.extends.row.0))) s) h;
+    others = record { row = λ p other. refl; rows = refl };
   }
 
   -- where no row is left, all rows were offered
-  pub walk_end : (last prev last₀ prev₀ : List (Option ℕ)) (found₀ : List Bool) (best₀ : List (Row V W)) (found : List Bool) (best : List (Row V W)) → Walking a b roads base rs j place r.start None last prev last₀ prev₀ found₀ best₀ found best → Held a b roads base rs found best (λ _ k. k < j + 1) place
-  walk_end last prev last₀ prev₀ found₀ best₀ found best w =
-      held_still a b la lb roads base rs found best (Walked j w.top) (λ _ k. k < j + 1) place
+  pub walk_end : (best₀ best : List (Option (Row V W))) → Walking a b roads base rs j place r.start None best₀ best → Held a b roads base rs best (λ _ k. k < j + 1) place
+  walk_end best₀ best w =
+      held_still a b la lb roads base rs best (Walked j w.top) (λ _ k. k < j + 1) place
       (λ z f s e. ⊎_elim (λ lt. inl lt)
       (λ high.
       let same : f.number ≡ j = omega arith in
@@ -67,8 +58,8 @@ module _ {V W : Type 0} (a : Meaning V) (b : Meaning W) (la : Laws a) (lb : Laws
       w.holds
 
   -- one row more was offered
-  pub walk_step : (i : ℕ) (last prev last₀ prev₀ last' prev' : List (Option ℕ)) (found₀ : List Bool) (best₀ : List (Row V W)) (found : List Bool) (best : List (Row V W)) (found' : List Bool) (best' : List (Row V W)) → Standing a b roads base rs → Linked rs last prev → place < length found → place < length best → Walking a b roads base rs j place r.start (Some i) last prev last₀ prev₀ found₀ best₀ found best → Tried a b roads base rs i j last found best found' best' → last' ≡ last → prev' ≡ prev → Walking a b roads base rs j place r.start (get_or prev' i None) last' prev' last₀ prev₀ found₀ best₀ found' best'
-  walk_step i last prev last₀ prev₀ last' prev' found₀ best₀ found best found' best' st links wide wide' w t el ep =
+  pub walk_step : (i : ℕ) (last prev : List (Option ℕ)) (best₀ best best' : List (Option (Row V W))) → Standing a b roads base rs → Linked rs last prev → place < length best → Walking a b roads base rs j place r.start (Some i) best₀ best → Tried a b roads base rs i j last best best' → Walking a b roads base rs j place r.start (get_or prev i None) best₀ best'
+  walk_step i last prev best₀ best best' st links wide w t =
       let e = t.extends in
       let q = t.next in
       let road_is : t.road ≡ r = sym (e.road.1 r) ∙ n.1 r in
@@ -77,8 +68,7 @@ module _ {V W : Type 0} (a : Meaning V) (b : Meaning W) (la : Laws a) (lb : Laws
       let front = replicate base t.row in
       let long : length front ≡ base = length-replicate base t.row in
       let g = st.grown front long in
-      let low : q.end < length found = omega arith in
-      let low' : q.end < length best = omega arith in
+      let low : q.end < length best = omega arith in
       let latest_q = links.latest q.end t.within in
       let (below_top, _, all_below) = w.latest in
       let more : (z : Row V W) (f : Fresh a b roads base rs z) → Walked j i f.index f.number → z.end ≡ q.end → Walked j w.top f.index f.number ⊎ ((f.index ≡ i) × (f.number ≡ j)) = λ z f s ez. ⊎_elim
@@ -91,27 +81,22 @@ module _ {V W : Type 0} (a : Meaning V) (b : Meaning W) (la : Laws a) (lb : Laws
       (λ high. inl (inr (same, high)))
       (cases_lt f.index w.top))
       s in
-      let here = held_here a b la lb roads base rs st.origin front long g i j t.row t.road q e found best found' best' (get_or last q.end None) latest_q low low' t.weighed t.passing (Walked j w.top) (Walked j i) more (subst (Held a b roads base rs found best (Walked j w.top)) (sym q_ends) w.holds) in
-      let keeps : (p : ℕ) → (p ≡ place → ⊥) → (get_or found' p false ≡ get_or found p false) × ((c : Row V W) → RowAt best' p c → RowAt best p c) = λ p other. kept a b la lb roads base rs st.origin front long g i j t.row t.road q e found best found' best' (get_or last q.end None) latest_q low low' t.weighed t.passing p (λ is. other (is ∙ q_ends)) in
-      let (flags, rows) = weighed_lengths a b rs q (get_or last q.end None) found best found' best' t.weighed in
+      let here = held_here a b la lb roads base rs st.origin front long g i j t.row t.road q e best best' (get_or last q.end None) latest_q low t.weighed t.passing (Walked j w.top) (Walked j i) more (subst (Held a b roads base rs best (Walked j w.top)) (sym q_ends) w.holds) in
+      let keeps : (p : ℕ) → (p ≡ place → ⊥) → get_or best' p None ≡ get_or best p None = λ p other. kept a b la lb roads base rs st.origin front long g i j t.row t.road q e best best' (get_or last q.end None) latest_q low t.weighed t.passing p (λ is. other (is ∙ q_ends)) in
       record {
         top = i;
-        latest = subst (λ l. Latest rs i r.start (get_or l i None)) (sym ep) (subst (λ x. Latest rs i x (get_or prev i None)) row_ends (links.before i t.row e.row));
+        latest = subst (λ x. Latest rs i x (get_or prev i None)) row_ends (links.before i t.row e.row);
         within = omega (arith, w.within);
-        holds = subst (Held a b roads base rs found' best' (Walked j i)) q_ends here;
+        holds = subst (Held a b roads base rs best' (Walked j i)) q_ends here;
         others = record {
-          flag = λ p other. (keeps p other).0 ∙ w.others.flag p other;
-          row = λ p c other at_c. w.others.row p c other ((keeps p other).1 c at_c);
-          flags = flags ∙ w.others.flags;
-          rows = rows ∙ w.others.rows;
+          row = λ p other. keeps p other ∙ w.others.row p other;
+          rows = weighed_length a b rs q (get_or last q.end None) best best' t.weighed ∙ w.others.rows;
         };
-        same_last = el ∙ w.same_last;
-        same_prev = ep ∙ w.same_prev;
       }
 
   -- road j may be driven behind each row that the walk comes to
-  pub walk_follows : (i : ℕ) (last prev last₀ prev₀ : List (Option ℕ)) (found₀ : List Bool) (best₀ : List (Row V W)) (found : List Bool) (best : List (Row V W)) → Enters a b roads j place → Walking a b roads base rs j place r.start (Some i) last prev last₀ prev₀ found₀ best₀ found best → Follows a b roads rs i j
-  walk_follows i last prev last₀ prev₀ found₀ best₀ found best (within, is) w =
+  pub walk_follows : (i : ℕ) (best₀ best : List (Option (Row V W))) → Enters a b roads j place → Walking a b roads base rs j place r.start (Some i) best₀ best → Follows a b roads rs i j
+  walk_follows i best₀ best (within, is) w =
       let (low, EndsThere, _) = w.latest in
       record {
         row = omega (arith, w.within);

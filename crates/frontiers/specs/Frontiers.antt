@@ -1,5 +1,5 @@
 -- What the frontier of a sweep holds, place by place.
-use Rattle.std.specs.Prelude.{◌≡◌, ℕ, ◌+◌, ◌<◌, ◌≤◌, Bool, true, false, ◌⊎◌, List, length, get_or, take, Some, None, MatchBool, Option, ◌≢◌, slice_index_or, slice_set}
+use Rattle.std.specs.Prelude.{◌≡◌, ℕ, ◌+◌, ◌<◌, ◌≤◌, Bool, true, false, ◌⊎◌, List, length, take, Some, None, MatchBool, Ok, Err, Option, Result, ◌≢◌, slice_index_or, slice_set}
 use Rattle.criteria.specs.Meaning.{Meaning, Strict, Laws}
 use Rattle.roads.specs.Tables.{Within}
 use Rattle.roads.specs.declared.road.Road.{Road}
@@ -26,10 +26,9 @@ module _ {V W : Type 0} where
   Shown b rs q None r = r ≡ false
   Shown b rs q (Some k) r = (p : Row V W) → RowAt rs k p → MatchBool r (b.good p.second q.second) (Strict b.good q.second p.second)
 
-  -- a flag and a row for every place that a network may have
-  pub record Sized (found : List Bool) (best : List (Row V W)) : Type 0 where
-    pub flags : length found ≡ 2048
-    pub rows : length best ≡ 2048
+  -- the place holds the row
+  abbrev pub Holds : List (Option (Row V W)) → ℕ → Row V W → Type 0
+  Holds best place c = slice_index_or best place None ≡ Some c
 
 module _ {V W : Type 0} (a : Meaning V) (b : Meaning W) where
   -- r is the row p with the road q behind it; from and number are what its source names
@@ -52,9 +51,9 @@ module _ {V W : Type 0} (a : Meaning V) (b : Meaning W) where
 
   module _ (roads : List Road) (base : ℕ) (rs : List (Row V W)) where
     -- of the uncovered extensions into a place that have been seen, by row and road, the best is held, or there is none
-    pub record Held (found : List Bool) (best : List (Row V W)) (seen : ℕ → ℕ → Type 0) (place : ℕ) : Type 0 where
-      pub right : get_or found place false ≡ true → (c : Row V W) → RowAt best place c → Fresh a b roads base rs c × (c.end ≡ place) × Passing c
-      pub first : (q : Row V W) (f : Fresh a b roads base rs q) → seen f.index f.number → q.end ≡ place → (slice_index_or found place false ≡ true) × ((c : Row V W) → RowAt best place c → Ahead a b (pair_of c) (pair_of q))
+    pub record Held (best : List (Option (Row V W))) (seen : ℕ → ℕ → Type 0) (place : ℕ) : Type 0 where
+      pub right : (c : Row V W) → Holds best place c → Fresh a b roads base rs c × (c.end ≡ place) × Passing c
+      pub first : (q : Row V W) (f : Fresh a b roads base rs q) → seen f.index f.number → q.end ≡ place → (c : Row V W) × Holds best place c × Ahead a b (pair_of c) (pair_of q)
 
   -- what a sweep rests on: rows that were grown, over roads of a network of at most 2,048 places
   pub record Standing (roads : List Road) (base : ℕ) (rs : List (Row V W)) : Type 0 where
@@ -72,30 +71,31 @@ module _ {V W : Type 0} (a : Meaning V) (b : Meaning W) where
     pub counted : length roads ≤ 16384
 
   -- what is held at the place of q is as good as q
-  pub record Outdone (q : Row V W) (found : List Bool) (best : List (Row V W)) : Type 0 where
-    pub held : get_or found q.end false ≡ true
-    pub ahead : (c : Row V W) → RowAt best q.end c → Ahead a b (pair_of c) (pair_of q)
+  pub record Outdone (q : Row V W) (best : List (Option (Row V W))) : Type 0 where
+    pub row : Row V W
+    pub held : Holds best q.end row
+    pub ahead : Ahead a b (pair_of row) (pair_of q)
 
   -- q is as good as what is held at its place, if anything is
-  pub record Foremost (q : Row V W) (found : List Bool) (best : List (Row V W)) : Type 0 where
-    pub ahead : get_or found q.end false ≡ true → (c : Row V W) → RowAt best q.end c → Ahead a b (pair_of q) (pair_of c)
+  pub record Foremost (q : Row V W) (best : List (Option (Row V W))) : Type 0 where
+    pub ahead : (c : Row V W) → Holds best q.end c → Ahead a b (pair_of q) (pair_of c)
 
-  -- the extension q was offered to the frontier, which then held found' and best'; `last` is the last row at its place:
+  -- the extension q was offered to the frontier, which then held best'; `last` is the last row at its place:
   -- that row shadows q, or what was held is as good, or q is held now
-  pub data Weighed (rs : List (Row V W)) (q : Row V W) (last : Option ℕ) (found : List Bool) (best : List (Row V W)) (found' : List Bool) (best' : List (Row V W)) : Type 0 where
-    shadowed : found' ≡ found → best' ≡ best → Shown b rs q last true → Weighed rs q last found best found' best'
-    outdone : found' ≡ found → best' ≡ best → Shown b rs q last false → Outdone q found best → Weighed rs q last found best found' best'
-    held : found' ≡ slice_set found q.end true → best' ≡ slice_set best q.end q → Shown b rs q last false → Foremost q found best → Weighed rs q last found best found' best'
+  pub data Weighed (rs : List (Row V W)) (q : Row V W) (last : Option ℕ) (best best' : List (Option (Row V W))) : Type 0 where
+    shadowed : best' ≡ best → Shown b rs q last true → Weighed rs q last best best'
+    outdone : best' ≡ best → Shown b rs q last false → Outdone q best → Weighed rs q last best best'
+    held : best' ≡ slice_set best q.end (Some q) → Shown b rs q last false → Foremost q best → Weighed rs q last best best'
 
   -- the row of index i with road j behind it was offered
-  pub record Tried (roads : List Road) (base : ℕ) (rs : List (Row V W)) (i j : ℕ) (last : List (Option ℕ)) (found : List Bool) (best : List (Row V W)) (found' : List Bool) (best' : List (Row V W)) : Type 0 where
+  pub record Tried (roads : List Road) (base : ℕ) (rs : List (Row V W)) (i j : ℕ) (last : List (Option ℕ)) (best best' : List (Option (Row V W))) : Type 0 where
     pub row : Row V W
     pub road : Road
     pub next : Row V W
     pub extends : Extends a b roads base rs i row j road next
     pub within : next.end < 2048
     pub passing : Passing next
-    pub weighed : Weighed rs next (slice_index_or last next.end None) found best found' best'
+    pub weighed : Weighed rs next (slice_index_or last next.end None) best best'
 
   -- road j may be driven behind row i
   pub record Follows (roads : List Road) (rs : List (Row V W)) (i j : ℕ) : Type 0 where
@@ -108,16 +108,14 @@ module _ {V W : Type 0} (a : Meaning V) (b : Meaning W) where
   Enters roads j place = (j < length roads) × ((r : Road) → Numbered roads j r → (r.«open» ≡ true) × (r.end ≡ place))
 
   -- all places but one hold what they held
-  pub record Kept (place : ℕ) (found : List Bool) (best : List (Row V W)) (found' : List Bool) (best' : List (Row V W)) : Type 0 where
-    pub flag : (p : ℕ) → (p ≢ place) → slice_index_or found' p false ≡ slice_index_or found p false
-    pub row : (p : ℕ) (c : Row V W) → (p ≢ place) → RowAt best' p c → RowAt best p c
-    pub flags : length found' ≡ length found
+  pub record Kept (place : ℕ) (best best' : List (Option (Row V W))) : Type 0 where
+    pub row : (p : ℕ) → (p ≢ place) → slice_index_or best' p None ≡ slice_index_or best p None
     pub rows : length best' ≡ length best
 
   -- a row was added at the place, and its index is newest; the roads before j have been seen again:
   -- every place holds the best of the extensions by those roads, and other places of those of older rows by every road
-  abbrev pub Renewed : List Road → ℕ → List (Row V W) → ℕ → ℕ → List Bool → List (Row V W) → ℕ → Type 0
-  Renewed roads base rs place newest found best j = (p : ℕ) → p < 2048 → Held roads base rs found best (λ i k. (k < j) ⊎ ((p ≢ place) × (i < newest))) p
+  abbrev pub Renewed : List Road → ℕ → List (Row V W) → ℕ → ℕ → List (Option (Row V W)) → ℕ → Type 0
+  Renewed roads base rs place newest best j = (p : ℕ) → p < 2048 → Held roads base rs best (λ i k. (k < j) ⊎ ((p ≢ place) × (i < newest))) p
 
   -- the newest row ends at the place
   pub record Newest (rs : List (Row V W)) (newest place : ℕ) : Type 0 where
@@ -126,37 +124,34 @@ module _ {V W : Type 0} (a : Meaning V) (b : Meaning W) where
     pub low : place < 2048
 
   -- linked rows of a sweep, the newest at the place, and the roads before j seen again
-  pub record Seeing (roads : List Road) (base : ℕ) (rs : List (Row V W)) (last prev : List (Option ℕ)) (found : List Bool) (best : List (Row V W)) (newest place j : ℕ) : Type 0 where
+  pub record Seeing (roads : List Road) (base : ℕ) (rs : List (Row V W)) (last prev : List (Option ℕ)) (best : List (Option (Row V W))) (newest place j : ℕ) : Type 0 where
     pub standing : Standing roads base rs
     pub linked : Linked rs last prev
-    pub sized : Sized found best
+    pub sized : length best ≡ 2048
     pub added : Newest rs newest place
     pub within : j < length roads
-    pub renewed : Renewed roads base rs place newest found best j
+    pub renewed : Renewed roads base rs place newest best j
 
   -- every place holds the best of all uncovered extensions into it, or there is none
-  abbrev pub Ready : List Road → ℕ → List (Row V W) → List Bool → List (Row V W) → Type 0
-  Ready roads base rs found best = (p : ℕ) → p < 2048 → Held roads base rs found best (λ _ _. Unit {0}) p
+  abbrev pub Ready : List Road → ℕ → List (Row V W) → List (Option (Row V W)) → Type 0
+  Ready roads base rs best = (p : ℕ) → p < 2048 → Held roads base rs best (λ _ _. Unit {0}) p
 
   -- the same of the extensions of the rows before the newest, at every place but one
-  abbrev pub Older : List Road → ℕ → List (Row V W) → ℕ → ℕ → List Bool → List (Row V W) → Type 0
-  Older roads base rs place newest found best = (p : ℕ) → p < 2048 → (p ≢ place) → Held roads base rs found best (λ i _. i < newest) p
+  abbrev pub Older : List Road → ℕ → List (Row V W) → ℕ → ℕ → List (Option (Row V W)) → Type 0
+  Older roads base rs place newest best = (p : ℕ) → p < 2048 → (p ≢ place) → Held roads base rs best (λ i _. i < newest) p
 
-  -- of the first n places, the one whose held row is the best, where any holds one
-  abbrev pub Chosen : ℕ → List Bool → List (Row V W) → Option ℕ → Type 0
-  Chosen n found best None = (p : ℕ) → p < n → slice_index_or found p false ≡ false
-  Chosen n found best (Some k) = (k < n) × (slice_index_or found k false ≡ true) × ((p : ℕ) (c d : Row V W) → p < n → slice_index_or found p false ≡ true → RowAt best k c → RowAt best p d → Ahead a b (pair_of c) (pair_of d))
+  -- what the first n places hold: the row is the best of it, or they hold nothing
+  abbrev pub Chosen : ℕ → List (Option (Row V W)) → Option (Row V W) → Type 0
+  Chosen n best None = (p : ℕ) → p < n → slice_index_or best p None ≡ None
+  Chosen n best (Some c) = ((k : ℕ) × (k < n) × Holds best k c) × ((p : ℕ) (d : Row V W) → p < n → Holds best p d → Ahead a b (pair_of c) (pair_of d))
 
   -- a sweep that stands between two rows: the rows so far, the links and what every place holds
-  pub record Searching (roads : List Road) (places origin base : ℕ) (rs : List (Row V W)) (found : List Bool) (best : List (Row V W)) (last prev : List (Option ℕ)) : Type 0 where
+  pub record Searching (roads : List Road) (places origin base : ℕ) (rs : List (Row V W)) (best : List (Option (Row V W))) (last prev : List (Option ℕ)) : Type 0 where
     pub standing : Standing roads base rs
     pub same_places : standing.places ≡ places
     pub same_origin : standing.origin ≡ origin
     pub linked : Linked rs last prev
-    pub sized : Sized found best
-    pub ready : Ready roads base rs found best
-    pub lasts : length last ≡ 2048
-    pub prevs : length prev ≡ 65536
+    pub ready : Ready roads base rs best
 
   -- what a sweep from an origin needs to know: the criteria keep their laws, and the network is within its bounds
   pub record Founded (roads : List Road) (places origin base room : ℕ) : Type 0 where
@@ -175,6 +170,6 @@ module _ {V W : Type 0} (a : Meaning V) (b : Meaning W) where
     pub same_origin : standing.origin ≡ origin
 
   -- a sweep over a whole table ended with n rows and nothing left to add, or filled the table with a row left over
-  abbrev pub Searched : List Road → ℕ → ℕ → ℕ → List (Row V W) → Option ℕ → Type 0
-  Searched roads places origin base table (Some n) = (n ≤ length table) × (Grew roads places origin base (take n table) × ((z : Row V W) → Fresh a b roads base (take n table) z → ⊥))
-  Searched roads places origin base table None = (length table ≡ 0) ⊎ (Grew roads places origin base table × ((c : Row V W) × Next a b roads base table c))
+  abbrev pub Searched : {E : Type 0} → List Road → ℕ → ℕ → ℕ → List (Row V W) → Result ℕ E → Type 0
+  Searched roads places origin base table (Ok n) = (n ≤ length table) × (Grew roads places origin base (take n table) × ((z : Row V W) → Fresh a b roads base (take n table) z → ⊥))
+  Searched roads places origin base table (Err _) = (length table ≡ 0) ⊎ (Grew roads places origin base table × ((c : Row V W) × Next a b roads base table c))
