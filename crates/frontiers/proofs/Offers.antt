@@ -22,6 +22,10 @@ row_read rs i x h e = (h, λ d. sym (get_or_read rs i x h e d))
 pub road_read : (roads : List Road) (j : ℕ) (d : Road) → j < length roads → Numbered roads j (get_or roads j d)
 road_read roads j d h = (h, λ d'. get_or_default roads j d' d h)
 
+-- a place holds the row that was read from it
+pub holds_read : {V W : Type 0} (best : List (Option (Row V W))) (place : ℕ) (o : Option (Row V W)) (x : Row V W) → place < length best → get_or best place o ≡ Some x → Holds best place x
+holds_read best place o x low is = get_or_default best place None o low ∙ is
+
 module _ {V W : Type 0} (a : Meaning V) (b : Meaning W) where
   -- what the comparison with the held row says
   pub outdone_when : (q : Row V W) (best : List (Option (Row V W))) (x : Row V W) (r : Bool) → Holds best q.end x → MatchBool r (Ahead a b (pair_of x) (pair_of q)) (Ahead a b (pair_of q) (pair_of x)) → MatchBool r (Outdone a b q best) (Foremost a b q best)

@@ -28,6 +28,10 @@ module _ {V W : Type 0} (a : Meaning V) (b : Meaning W) (roads : List Road) (bas
     pub holds : Held a b roads base rs best (Walked j top) place
     pub others : Kept a b place best₀ best
 
+-- the same of a row number that is equal
+pub walking_same : {V W : Type 0} {a : Meaning V} {b : Meaning W} {roads : List Road} {base : ℕ} {rs : List (Row V W)} {j place start : ℕ} {at at' : Option ℕ} {best₀ best : List (Option (Row V W))} → at ≡ at' → Walking a b roads base rs j place start at best₀ best → Walking a b roads base rs j place start at' best₀ best
+walking_same {a = a} {b = b} {roads = roads} {base = base} {rs = rs} {j = j} {place = place} {start = start} {best₀ = best₀} {best = best} e w = subst (λ o. Walking a b roads base rs j place start o best₀ best) e w
+
 module _ {V W : Type 0} (a : Meaning V) (b : Meaning W) (la : Laws a) (lb : Laws b) (roads : List Road) (base : ℕ) (rs : List (Row V W)) (j place : ℕ) (r : Road) (n : Numbered roads j r) (ends : r.end ≡ place) where
   -- the walk begins at the last row
   pub walk_start : (at : Option ℕ) (best : List (Option (Row V W))) → Latest rs (length rs) r.start at → Held a b roads base rs best (λ _ k. k < j) place → Walking a b roads base rs j place r.start at best best

@@ -1,2 +1,3 @@
 pub mod Frontiers
 pub mod Sound
+pub mod Links

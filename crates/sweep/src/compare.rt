@@ -1,9 +1,17 @@
 ghost use Rattle.std.specs.Prelude.{MatchBool};
+ghost use Rattle.criteria.specs.Meaning.{Strict};
 ghost use Rattle.growth.specs.Growing.{Ahead};
 ghost use Rattle.rows.specs.Places.{pair_of};
 
 use criteria::{Comparison, Criterion};
 use rows::Row;
+
+// Whether x is at least as good as y by the second criterion.
+pub(crate) fn as_good<B: Criterion>(b: &B, x: B::Value, y: B::Value) -> bool
+    ensures { MatchBool result ((B.Criterion.meaning b.now).good x y) (Strict (B.Criterion.meaning b.now).good y x) }
+{
+    b.compare(x, y) != Comparison::Worse
+}
 
 // Whether the values of x are better than those of y or as good, where the first criterion decides and the second on a tie.
 pub fn ahead<A: Criterion, B: Criterion>(
@@ -17,6 +25,6 @@ pub fn ahead<A: Criterion, B: Criterion>(
     match a.compare(x.first, y.first) {
         Comparison::Better => true,
         Comparison::Worse => false,
-        Comparison::Equal => !matches!(b.compare(x.second, y.second), Comparison::Worse),
+        Comparison::Equal => as_good(b, x.second, y.second),
     }
 }

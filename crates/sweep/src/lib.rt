@@ -3,8 +3,8 @@
 
 mod compare;
 mod frontier;
-mod sweeping;
+mod links;
+mod renewal;
 
 pub use compare::ahead;
 pub use frontier::Frontier;
-pub use sweeping::{SweepFault, sweep};
