@@ -19,6 +19,10 @@ module _ {V W : Type 0} (a : Meaning V) (b : Meaning W) (roads : List Road) (pla
     pub same_places : standing.places ≡ places
     pub same_origin : standing.origin ≡ origin
 
+  -- the same of links that are equal
+  pub forward_linked : {rs : List (Row V W)} {newest place : ℕ} {best : List (Option (Row V W))} {last last' prev prev' : List (Option ℕ)} → last' ≡ last → prev' ≡ prev → Forward rs newest place best last prev → Forward rs newest place best last' prev'
+  forward_linked {rs} {newest} {place} {best} {last} {last'} {prev} el ep f = subst (λ x. Forward rs newest place best last' x) (sym ep) (subst (λ x. Forward rs newest place best x prev) (sym el) f)
+
   -- once every place is ready again, the sweep stands with a row more
   pub stands_again : {rs : List (Row V W)} {newest place : ℕ} {best best' : List (Option (Row V W))} {last prev : List (Option ℕ)} → Forward rs newest place best last prev → Ready a b roads base rs best' → Searching a b roads places origin base rs best' last prev
   stands_again f ready = record {

@@ -4,24 +4,27 @@ use crate::links::Links;
 use rows::Row;
 
 // For each place that a network may have the best uncovered extension into it, where there is one.
-pub type Best<X, Y> = [Option<Row<X, Y>>; 2048];
+#[derive(Drop)]
+pub struct Best<X, Y> {
+    pub(crate) rows: [Option<Row<X, Y>>; 2048],
+    ghost sized: { length rows ≡ 2048 },
+}
 
 // Scratch space of a sweep, at the bounds of a network: what every place holds, and how the rows so far are linked.
 #[derive(Drop)]
 pub struct Frontier<X, Y> {
     pub(crate) best: Best<X, Y>,
     pub(crate) links: Links,
-    ghost sized: { length best ≡ 2048 },
 }
 
 impl<X: Copy, Y: Copy> Frontier<X, Y> {
     // A frontier that holds nothing.
     pub fn new() -> Frontier<X, Y>
-        ensures best { result.best ≡ replicate 2048 None }
+        ensures best { result.best.rows ≡ replicate 2048 None }
         ensures last { result.links.last ≡ replicate 2048 None }
     {
         Frontier {
-            best: [None; 2048],
+            best: Best { rows: [None; 2048] },
             links: Links::new(),
         }
     }

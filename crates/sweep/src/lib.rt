@@ -5,6 +5,7 @@ mod compare;
 mod frontier;
 mod links;
 mod renewal;
+mod search;
 
 pub use compare::ahead;
 pub use frontier::Frontier;

@@ -46,9 +46,9 @@ impl<A: Criterion, B: Criterion> Renewal<'_, A, B> {
         q: &Row<A::Value, B::Value>,
     ) -> bool
         requires { q.now.end < 2048 }
-        ensures { MatchBool result (Outdone (A.Criterion.meaning self.now.first.now) (B.Criterion.meaning self.now.second.now) q.now best.now) (Foremost (A.Criterion.meaning self.now.first.now) (B.Criterion.meaning self.now.second.now) q.now best.now) }
+        ensures { MatchBool result (Outdone (A.Criterion.meaning self.now.first.now) (B.Criterion.meaning self.now.second.now) q.now best.now.rows) (Foremost (A.Criterion.meaning self.now.first.now) (B.Criterion.meaning self.now.second.now) q.now best.now.rows) }
     {
-        match &best[q.end as usize] {
+        match &best.rows[q.end as usize] {
             None => false,
             Some(held) => ahead(self.first, self.second, held, q),
         }
@@ -57,12 +57,12 @@ impl<A: Criterion, B: Criterion> Renewal<'_, A, B> {
     // Offers the extension q: its place holds it from now on if no row covers it and it is better than what is held there.
     fn offer(&self, best: &mut Best<A::Value, B::Value>, q: Row<A::Value, B::Value>)
         requires { q.end < 2048 }
-        ensures { Weighed (A.Criterion.meaning self.now.first.now) (B.Criterion.meaning self.now.second.now) self.now.rows.now q (slice_index_or self.now.links.now.last q.end None) best.old best.new }
+        ensures { Weighed (A.Criterion.meaning self.now.first.now) (B.Criterion.meaning self.now.second.now) self.now.rows.now q (slice_index_or self.now.links.now.last q.end None) best.old.rows best.new.rows }
     {
         if self.shadowed(&q) || self.outdone(best, &q) {
             return;
         }
-        best[q.end as usize] = Some(q);
+        best.rows[q.end as usize] = Some(q);
     }
 
     // The row with one road more behind it. `from` and `number` name the two in the new row's source.
@@ -93,7 +93,7 @@ impl<A: Criterion, B: Criterion> Renewal<'_, A, B> {
     fn try_row(&self, best: &mut Best<A::Value, B::Value>, i: u32, j: usize)
         requires standing { Standing (A.Criterion.meaning self.now.first.now) (B.Criterion.meaning self.now.second.now) self.now.roads.now self.now.base self.now.rows.now }
         requires follows { Follows (A.Criterion.meaning self.now.first.now) (B.Criterion.meaning self.now.second.now) self.now.roads.now self.now.rows.now i j }
-        ensures { Tried (A.Criterion.meaning self.now.first.now) (B.Criterion.meaning self.now.second.now) self.now.roads.now self.now.base self.now.rows.now i j self.now.links.now.last best.old best.new }
+        ensures { Tried (A.Criterion.meaning self.now.first.now) (B.Criterion.meaning self.now.second.now) self.now.roads.now self.now.base self.now.rows.now i j self.now.links.now.last best.old.rows best.new.rows }
     {
         let q = self.extension(&self.rows[i as usize], &self.roads[j], self.base + i, j as u32);
         self.offer(best, q);
@@ -103,9 +103,9 @@ impl<A: Criterion, B: Criterion> Renewal<'_, A, B> {
     fn try_rows(&self, best: &mut Best<A::Value, B::Value>, j: usize)
         requires standing { Standing (A.Criterion.meaning self.now.first.now) (B.Criterion.meaning self.now.second.now) self.now.roads.now self.now.base self.now.rows.now }
         requires enters { Enters (A.Criterion.meaning self.now.first.now) (B.Criterion.meaning self.now.second.now) self.now.roads.now j self.now.place }
-        requires held { Held (A.Criterion.meaning self.now.first.now) (B.Criterion.meaning self.now.second.now) self.now.roads.now self.now.base self.now.rows.now best.old (λ _ k. k < j) self.now.place }
-        ensures kept { Kept (A.Criterion.meaning self.now.first.now) (B.Criterion.meaning self.now.second.now) self.now.place best.old best.new }
-        ensures held { Held (A.Criterion.meaning self.now.first.now) (B.Criterion.meaning self.now.second.now) self.now.roads.now self.now.base self.now.rows.now best.new (λ _ k. k < j + 1) self.now.place }
+        requires held { Held (A.Criterion.meaning self.now.first.now) (B.Criterion.meaning self.now.second.now) self.now.roads.now self.now.base self.now.rows.now best.old.rows (λ _ k. k < j) self.now.place }
+        ensures kept { Kept (A.Criterion.meaning self.now.first.now) (B.Criterion.meaning self.now.second.now) self.now.place best.old.rows best.new.rows }
+        ensures held { Held (A.Criterion.meaning self.now.first.now) (B.Criterion.meaning self.now.second.now) self.now.roads.now self.now.base self.now.rows.now best.new.rows (λ _ k. k < j + 1) self.now.place }
     {
         let mut at = self.links.last_at(self.roads[j].start);
         while let Some(i) = at {
@@ -118,8 +118,8 @@ impl<A: Criterion, B: Criterion> Renewal<'_, A, B> {
     fn see_road(&self, best: &mut Best<A::Value, B::Value>, j: usize, road: &Road)
         requires standing { Standing (A.Criterion.meaning self.now.first.now) (B.Criterion.meaning self.now.second.now) self.now.roads.now self.now.base self.now.rows.now }
         requires road { Numbered self.now.roads.now j road.now }
-        requires renewed { Renewed (A.Criterion.meaning self.now.first.now) (B.Criterion.meaning self.now.second.now) self.now.roads.now self.now.base self.now.rows.now self.now.place self.now.newest best.old j }
-        ensures { Renewed (A.Criterion.meaning self.now.first.now) (B.Criterion.meaning self.now.second.now) self.now.roads.now self.now.base self.now.rows.now self.now.place self.now.newest best.new (j + 1) }
+        requires renewed { Renewed (A.Criterion.meaning self.now.first.now) (B.Criterion.meaning self.now.second.now) self.now.roads.now self.now.base self.now.rows.now self.now.place self.now.newest best.old.rows j }
+        ensures { Renewed (A.Criterion.meaning self.now.first.now) (B.Criterion.meaning self.now.second.now) self.now.roads.now self.now.base self.now.rows.now self.now.place self.now.newest best.new.rows (j + 1) }
     {
         if !drivable(road) {
             return;
@@ -137,10 +137,10 @@ impl<A: Criterion, B: Criterion> Renewal<'_, A, B> {
     // Makes every place hold the best uncovered extension into it again.
     pub(crate) fn renew(&self, best: &mut Best<A::Value, B::Value>)
         requires standing { Standing (A.Criterion.meaning self.now.first.now) (B.Criterion.meaning self.now.second.now) self.now.roads.now self.now.base self.now.rows.now }
-        requires older { Older (A.Criterion.meaning self.now.first.now) (B.Criterion.meaning self.now.second.now) self.now.roads.now self.now.base self.now.rows.now self.now.place self.now.newest best.old }
-        ensures { Ready (A.Criterion.meaning self.now.first.now) (B.Criterion.meaning self.now.second.now) self.now.roads.now self.now.base self.now.rows.now best.new }
+        requires older { Older (A.Criterion.meaning self.now.first.now) (B.Criterion.meaning self.now.second.now) self.now.roads.now self.now.base self.now.rows.now self.now.place self.now.newest best.old.rows }
+        ensures { Ready (A.Criterion.meaning self.now.first.now) (B.Criterion.meaning self.now.second.now) self.now.roads.now self.now.base self.now.rows.now best.new.rows }
     {
-        best[self.place as usize] = None;
+        best.rows[self.place as usize] = None;
         for (j, road) in self.roads.iter().enumerate() {
             self.see_road(best, j, road);
         }

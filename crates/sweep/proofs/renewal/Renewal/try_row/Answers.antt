@@ -23,5 +23,5 @@ offer-requires g c = (search rules, low g (goal.at.offer-requires g c).After-ext
 pub returns : goal.returns
 returns g c =
     let s = c.args.self.now in
-    tried_by (g.A.Criterion.meaning s.first.now) (g.B.Criterion.meaning s.second.now) s.roads.now s.base s.rows.now c.args.i c.args.j (get_or s.rows.now c.args.i c.index-self-i.result) (get_or s.roads.now c.args.j unread) c.extension-q.result s.links.now.last c.args.best.now c.offer.new.best c.requires.follows
+    tried_by (g.A.Criterion.meaning s.first.now) (g.B.Criterion.meaning s.second.now) s.roads.now s.base s.rows.now c.args.i c.args.j (get_or s.rows.now c.args.i c.index-self-i.result) (get_or s.roads.now c.args.j unread) c.extension-q.result s.links.now.last c.args.best.now.rows c.offer.new.best.rows c.requires.follows
     (read_at s.rows.now c.args.i c.index-self-i.result c.requires.follows.row) (road_read s.roads.now c.args.j unread c.requires.follows.road) c.extension-q.ensures.built (low g (goal.at.returns g c).After-extension-q) c.extension-q.ensures.passing c.offer.ensures

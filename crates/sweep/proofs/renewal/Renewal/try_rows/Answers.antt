@@ -33,12 +33,12 @@ loop-at-init g c =
     let s = (goal.at.loop-at-init g c).Start in
     let r = c.args.self.now in
     let st = c.requires.standing in
-    walk_start (g.A.Criterion.meaning r.first.now) (g.B.Criterion.meaning r.second.now) st.first_laws st.second_laws r.roads.now r.base r.rows.now c.args.j r.place (road g s) (is_road g s) (ends g s) c.last_at-at.result c.args.best.now
+    walk_start (g.A.Criterion.meaning r.first.now) (g.B.Criterion.meaning r.second.now) st.first_laws st.second_laws r.roads.now r.base r.rows.now c.args.j r.place (road g s) (is_road g s) (ends g s) c.last_at-at.result c.args.best.now.rows
     (subst (λ o. Latest r.rows.now (length r.rows.now) (road g s).start o) (sym c.last_at-at.ensures) (r.linked.latest (road g s).start (start_low g s)))
     c.requires.held
 
 -- how far the walk has come where it has come to row i
-walking : (g : given.Over) (c : In-Some g) → Walking (g.A.Criterion.meaning c.args.self.now.first.now) (g.B.Criterion.meaning c.args.self.now.second.now) c.args.self.now.roads.now c.args.self.now.base c.args.self.now.rows.now c.args.j c.args.self.now.place (get_or c.args.self.now.roads.now c.args.j unread).start (Some c.in-Some.i) c.args.best.now c.loop-at.best
+walking : (g : given.Over) (c : In-Some g) → Walking (g.A.Criterion.meaning c.args.self.now.first.now) (g.B.Criterion.meaning c.args.self.now.second.now) c.args.self.now.roads.now c.args.self.now.base c.args.self.now.rows.now c.args.j c.args.self.now.place (get_or c.args.self.now.roads.now c.args.j unread).start (Some c.in-Some.i) c.args.best.now.rows c.loop-at.best.rows
 walking g c = walking_same c.in-Some.is c.loop-at.invariant
 
 pub try_row-requires : goal.try_row-requires
@@ -58,7 +58,7 @@ loop-at-preserved g c =
     let r = c.args.self.now in
     let st = c.requires.standing in
     walking_same (sym c.before-at.ensures)
-    (walk_step (g.A.Criterion.meaning r.first.now) (g.B.Criterion.meaning r.second.now) st.first_laws st.second_laws r.roads.now r.base r.rows.now c.args.j r.place (road g s) (is_road g s) (ends g s) c.in-Some.i r.links.now.last r.links.now.prev c.args.best.now c.loop-at.best c.try_row.new.best
+    (walk_step (g.A.Criterion.meaning r.first.now) (g.B.Criterion.meaning r.second.now) st.first_laws st.second_laws r.roads.now r.base r.rows.now c.args.j r.place (road g s) (is_road g s) (ends g s) c.in-Some.i r.links.now.last r.links.now.prev c.args.best.now.rows c.loop-at.best.rows c.try_row.new.best.rows
     st r.linked (omega (arith, r.added.low)) (walking g i) c.try_row.ensures)
 
 pub loop-at-smaller : goal.loop-at-smaller
@@ -77,5 +77,5 @@ returns g c =
     let w = c.loop-at.invariant in
     record {
       kept = w.others;
-      held = walk_end (g.A.Criterion.meaning r.first.now) (g.B.Criterion.meaning r.second.now) st.first_laws st.second_laws r.roads.now r.base r.rows.now c.args.j r.place (road g s) (is_road g s) (ends g s) c.args.best.now c.loop-at.best (walking_same c.in_default.is w);
+      held = walk_end (g.A.Criterion.meaning r.first.now) (g.B.Criterion.meaning r.second.now) st.first_laws st.second_laws r.roads.now r.base r.rows.now c.args.j r.place (road g s) (is_road g s) (ends g s) c.args.best.now.rows c.loop-at.best.rows (walking_same c.in_default.is w);
     }

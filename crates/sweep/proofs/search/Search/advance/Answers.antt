@@ -1,0 +1,66 @@
+use Rattle.std.proofs.Common.{ℕ, ◌+◌, length, get_or, take, set, Some, None, sym, refl, subst, arith, length-set, rules}
+use Rattle.std.proofs.lemmas.List.{take-set, take_more_set}
+use Rattle.growth.specs.Sourced.{Sourced}
+use Rattle.growth.proofs.Sources.{sourced_next}
+use Rattle.frontiers.specs.Frontiers.{Searching}
+use Rattle.frontiers.proofs.Steps.{Forward, forward_linked, stands_again, step_none, step_next, step_low, step_forward}
+use Rattle.sweep.proofs.search.Search.advance.Given as given
+use Rattle.sweep.proofs.search.Search.advance.Goals as goal
+use Rattle.sweep.proofs.search.Search.advance.Goals.{After-link}
+
+pub returns-in_default-clause-advanced : goal.returns-in_default-clause-advanced
+returns-in_default-clause-advanced g c =
+    let s = c.args.self.now in
+    let f = c.args.frontier.now in
+    (refl, step_none (g.A.Criterion.meaning s.first.now) (g.B.Criterion.meaning s.second.now) s.roads.now s.places s.origin s.base c.args.rows.now c.args.n f.best.rows f.links.last f.links.prev c.requires.searching c.requires.within c.in_default.ensures)
+
+pub returns-then-n-rows-clause-advanced : goal.returns-then-n-rows-clause-advanced
+returns-then-n-rows-clause-advanced g c =
+    let s = c.args.self.now in
+    let f = c.args.frontier.now in
+    (c.if-n-rows.true, (refl, (c.in-Some.row, step_next (g.A.Criterion.meaning s.first.now) (g.B.Criterion.meaning s.second.now) s.roads.now s.places s.origin s.base c.args.rows.now c.args.n f.best.rows f.links.last f.links.prev c.requires.searching c.requires.within c.in-Some.row c.in-Some.ensures)))
+
+pub link-requires-clause-low : goal.link-requires-clause-low
+link-requires-clause-low g c =
+    let s = c.args.self.now in
+    let f = c.args.frontier.now in
+    step_low (g.A.Criterion.meaning s.first.now) (g.B.Criterion.meaning s.second.now) s.roads.now s.places s.origin s.base c.args.rows.now c.args.n f.best.rows f.links.last f.links.prev c.requires.searching c.requires.within c.in-Some.row c.in-Some.ensures
+
+-- the step, once the row is written and linked
+forward : (g : given.Over) (c : After-link g) → Forward (g.A.Criterion.meaning c.args.self.now.first.now) (g.B.Criterion.meaning c.args.self.now.second.now) c.args.self.now.roads.now c.args.self.now.places c.args.self.now.origin c.args.self.now.base (take (c.args.n + 1) (set c.args.rows.now c.args.n c.in-Some.row)) c.args.n c.in-Some.row.end c.args.frontier.now.best.rows c.link.new.self.last c.link.new.self.prev
+forward g c =
+    let s = c.args.self.now in
+    let f = c.args.frontier.now in
+    let a = g.A.Criterion.meaning s.first.now in
+    let b = g.B.Criterion.meaning s.second.now in
+    forward_linked a b s.roads.now s.places s.origin s.base c.link.ensures.last c.link.ensures.prev
+    (step_forward a b s.roads.now s.places s.origin s.base c.args.rows.now c.args.n f.best.rows f.links.last f.links.prev c.requires.searching c.requires.within c.in-Some.row c.in-Some.ensures c.if-n-rows.false c.requires.room f.links.lasts f.links.prevs)
+
+pub renew-requires : goal.renew-requires
+renew-requires g c =
+    let f = forward g (goal.at.renew-requires g c).After-link in
+    (search rules, (omega (arith, length-set c.args.rows.now c.args.n c.in-Some.row, c.if-n-rows.false), (f.standing, (f.linked, (f.added, f.older)))))
+
+pub returns-clause-advanced : goal.returns-clause-advanced
+returns-clause-advanced g c =
+    let s = c.args.self.now in
+    let a = g.A.Criterion.meaning s.first.now in
+    let b = g.B.Criterion.meaning s.second.now in
+    let rs = take (c.args.n + 1) (set c.args.rows.now c.args.n c.in-Some.row) in (
+      c.if-n-rows.false,
+      (
+        take-set c.args.rows.now c.args.n c.in-Some.row,
+        subst (λ l. Searching a b s.roads.now s.places s.origin s.base rs c.renew.new.frontier.best.rows l.last l.prev) (sym c.renew.ensures.links)
+            (stands_again a b s.roads.now s.places s.origin s.base (forward g (goal.at.returns-clause-advanced g c).After-link) c.renew.ensures.ready),
+      ),
+    )
+
+pub returns-clause-sourced : goal.returns-clause-sourced
+returns-clause-sourced g c = λ h.
+    let s = c.args.self.now in
+    let f = c.args.frontier.now in
+    let a = g.A.Criterion.meaning s.first.now in
+    let b = g.B.Criterion.meaning s.second.now in
+    let x = c.in-Some.row in
+    let next = step_next a b s.roads.now s.places s.origin s.base c.args.rows.now c.args.n f.best.rows f.links.last f.links.prev c.requires.searching c.requires.within x c.in-Some.ensures in
+    subst (Sourced (length s.roads.now) s.base) (sym (take_more_set c.args.rows.now c.args.n x c.if-n-rows.false)) (sourced_next a b s.roads.now s.base (take c.args.n c.args.rows.now) x h next)

@@ -1,0 +1,185 @@
+ghost use Rattle.std.specs.Prelude.{◌≡◌, ℕ, ◌+◌, ◌<◌, ◌≤◌, List, length, take, None, Option, IfSome, slice_index_or};
+ghost use Rattle.criteria.specs.Meaning.{Laws};
+ghost use Rattle.growth.specs.Complete.{EmptyRow};
+ghost use Rattle.growth.specs.Sourced.{Sourced};
+ghost use Rattle.frontiers.specs.Frontiers.{Linked, Standing, Newest, Older, Ready, Chosen, Searching, Searched, Founded};
+ghost use Rattle.sweep.specs.Steps.{Advanced, SourcedAfter};
+
+use crate::frontier::Best;
+use crate::renewal::Renewal;
+use crate::{Frontier, ahead};
+use criteria::{Criterion, laws_stand};
+use roads::Road;
+use rows::{Row, Source};
+
+// What a search goes by: the criteria, the roads of so many places, where it starts, and how many rows stand before its own in
+// their table.
+#[derive(Drop)]
+pub(crate) struct Search<'s, A: Criterion, B: Criterion> {
+    pub(crate) first: &'s A,
+    pub(crate) second: &'s B,
+    pub(crate) roads: &'s [Road],
+    pub(crate) places: u32,
+    pub(crate) origin: u32,
+    pub(crate) base: u32,
+}
+
+impl<A: Criterion, B: Criterion> Search<'_, A, B> {
+    // The better of what was chosen among the first n places and what the next one holds.
+    fn better(
+        &self,
+        choice: Option<Row<A::Value, B::Value>>,
+        held: Option<Row<A::Value, B::Value>>,
+    ) -> Option<Row<A::Value, B::Value>>
+        requires first_laws { Laws (A.Criterion.meaning self.now.first.now) }
+        requires second_laws { Laws (B.Criterion.meaning self.now.second.now) }
+        ensures { (n : ℕ) (best : List (Option (Row A.Value B.Value))) → slice_index_or best n None ≡ held → Chosen (A.Criterion.meaning self.now.first.now) (B.Criterion.meaning self.now.second.now) n best choice → Chosen (A.Criterion.meaning self.now.first.now) (B.Criterion.meaning self.now.second.now) (n + 1) best result }
+    {
+        match (choice, held) {
+            (Some(x), Some(y)) => {
+                if ahead(self.first, self.second, &x, &y) {
+                    Some(x)
+                } else {
+                    Some(y)
+                }
+            }
+            (Some(x), None) => Some(x),
+            (None, held) => held,
+        }
+    }
+
+    // The best row that the places hold.
+    fn pick(&self, best: &Best<A::Value, B::Value>) -> Option<Row<A::Value, B::Value>>
+        requires { self.now.places ≤ 2048 }
+        ensures { Chosen (A.Criterion.meaning self.now.first.now) (B.Criterion.meaning self.now.second.now) self.now.places best.now.rows result }
+    {
+        laws_stand(self.first);
+        laws_stand(self.second);
+        let mut choice = None;
+        for held in &best.rows[..self.places as usize] {
+            choice = self.better(choice, *held);
+        }
+        choice
+    }
+
+    // After a row was added at the place: every place holds the best uncovered extension into it again.
+    fn renew(
+        &self,
+        frontier: &mut Frontier<A::Value, B::Value>,
+        rows: &[Row<A::Value, B::Value>],
+        newest: u32,
+        place: u32,
+    )
+        requires within { newest < length rows.now }
+        requires standing { Standing (A.Criterion.meaning self.now.first.now) (B.Criterion.meaning self.now.second.now) self.now.roads.now self.now.base (take (newest + 1) rows.now) }
+        requires linked { Linked (take (newest + 1) rows.now) frontier.old.links.last frontier.old.links.prev }
+        requires added { Newest (A.Criterion.meaning self.now.first.now) (B.Criterion.meaning self.now.second.now) (take (newest + 1) rows.now) newest place }
+        requires older { Older (A.Criterion.meaning self.now.first.now) (B.Criterion.meaning self.now.second.now) self.now.roads.now self.now.base (take (newest + 1) rows.now) place newest frontier.old.best.rows }
+        ensures links { frontier.new.links ≡ frontier.old.links }
+        ensures ready { Ready (A.Criterion.meaning self.now.first.now) (B.Criterion.meaning self.now.second.now) self.now.roads.now self.now.base (take (newest + 1) rows.now) frontier.new.best.rows }
+    {
+        let renewal = Renewal {
+            first: self.first,
+            second: self.second,
+            roads: self.roads,
+            base: self.base,
+            rows: &rows[..newest as usize + 1],
+            links: &frontier.links,
+            newest,
+            place,
+        };
+        renewal.renew(&mut frontier.best);
+    }
+
+    // Adds the best uncovered extension to the first n rows, if there is one; tells whether, or that there is no room for it.
+    fn advance(
+        &self,
+        frontier: &mut Frontier<A::Value, B::Value>,
+        rows: &mut [Row<A::Value, B::Value>],
+        n: u32,
+    ) -> Option<bool>
+        requires searching { Searching (A.Criterion.meaning self.now.first.now) (B.Criterion.meaning self.now.second.now) self.now.roads.now self.now.places self.now.origin self.now.base (take n rows.old) frontier.old.best.rows frontier.old.links.last frontier.old.links.prev }
+        requires within { n ≤ length rows.old }
+        requires room { self.now.base + length rows.old ≤ 65536 }
+        ensures advanced { Advanced (A.Criterion.meaning self.now.first.now) (B.Criterion.meaning self.now.second.now) self.now.roads.now self.now.places self.now.origin self.now.base n rows.old rows.new frontier.new.best.rows frontier.new.links.last frontier.new.links.prev result }
+        ensures sourced { Sourced (length self.now.roads.now) self.now.base (take n rows.old) → SourcedAfter (length self.now.roads.now) self.now.base n rows.new result }
+    {
+        let Some(row) = self.pick(&frontier.best) else {
+            return Some(false);
+        };
+        if n as usize >= rows.len() {
+            return None;
+        }
+        rows[n as usize] = row;
+        frontier.links.link(row.end, n);
+        self.renew(frontier, rows, n, row.end);
+        Some(true)
+    }
+
+    // Adds the best uncovered extension, again and again, until none is left or the table is full. Tells the number of rows.
+    fn climb(
+        &self,
+        frontier: &mut Frontier<A::Value, B::Value>,
+        rows: &mut [Row<A::Value, B::Value>],
+    ) -> Option<u32>
+        requires searching { Searching (A.Criterion.meaning self.now.first.now) (B.Criterion.meaning self.now.second.now) self.now.roads.now self.now.places self.now.origin self.now.base (take 1 rows.old) frontier.old.best.rows frontier.old.links.last frontier.old.links.prev }
+        requires sourced { Sourced (length self.now.roads.now) self.now.base (take 1 rows.old) }
+        requires some { 1 ≤ length rows.old }
+        requires room { self.now.base + length rows.old ≤ 65536 }
+        ensures searched { Searched (A.Criterion.meaning self.now.first.now) (B.Criterion.meaning self.now.second.now) self.now.roads.now self.now.places self.now.origin self.now.base rows.new result }
+        ensures sourced { IfSome result (λ count. Sourced (length self.now.roads.now) self.now.base (take count rows.new)) }
+    {
+        let mut n = 1;
+        while self.advance(frontier, rows, n)? {
+            n += 1;
+        }
+        Some(n)
+    }
+
+    // The row of the empty trip.
+    fn empty_row(&self) -> Row<A::Value, B::Value>
+        ensures { EmptyRow (A.Criterion.meaning self.now.first.now) (B.Criterion.meaning self.now.second.now) self.now.origin result }
+    {
+        Row {
+            end: self.origin,
+            first: self.first.unit(),
+            second: self.second.unit(),
+            roads: 0,
+            source: Source::Empty,
+        }
+    }
+
+    // Writes the row of the empty trip, and makes the frontier of that one row.
+    fn begin(
+        &self,
+        frontier: &mut Frontier<A::Value, B::Value>,
+        rows: &mut [Row<A::Value, B::Value>],
+    )
+        requires founded { Founded (A.Criterion.meaning self.now.first.now) (B.Criterion.meaning self.now.second.now) self.now.roads.now self.now.places self.now.origin self.now.base (length rows.old) }
+        requires some { 1 ≤ length rows.old }
+        ensures stands { Searching (A.Criterion.meaning self.now.first.now) (B.Criterion.meaning self.now.second.now) self.now.roads.now self.now.places self.now.origin self.now.base (take 1 rows.new) frontier.new.best.rows frontier.new.links.last frontier.new.links.prev }
+        ensures sourced { Sourced (length self.now.roads.now) self.now.base (take 1 rows.new) }
+    {
+        *frontier = Frontier::new();
+        rows[0] = self.empty_row();
+        frontier.links.link(self.origin, 0);
+        self.renew(frontier, rows, 0, self.origin);
+    }
+
+    // Searches from the origin over the roads, into the table. Tells the number of rows, or that there is no room for all.
+    pub(crate) fn grow(
+        &self,
+        frontier: &mut Frontier<A::Value, B::Value>,
+        rows: &mut [Row<A::Value, B::Value>],
+    ) -> Option<u32>
+        requires { Founded (A.Criterion.meaning self.now.first.now) (B.Criterion.meaning self.now.second.now) self.now.roads.now self.now.places self.now.origin self.now.base (length rows.old) }
+        ensures searched { Searched (A.Criterion.meaning self.now.first.now) (B.Criterion.meaning self.now.second.now) self.now.roads.now self.now.places self.now.origin self.now.base rows.new result }
+        ensures sourced { IfSome result (λ count. Sourced (length self.now.roads.now) self.now.base (take count rows.new)) }
+    {
+        if rows.is_empty() {
+            return None;
+        }
+        self.begin(frontier, rows);
+        self.climb(frontier, rows)
+    }
+}
