@@ -6,6 +6,8 @@ mod frontier;
 mod links;
 mod renewal;
 mod search;
+mod sweeping;
 
 pub use compare::ahead;
 pub use frontier::Frontier;
+pub use sweeping::{SweepFault, sweep};

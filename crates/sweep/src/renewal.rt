@@ -40,11 +40,7 @@ impl<A: Criterion, B: Criterion> Renewal<'_, A, B> {
     }
 
     // Whether the place of q holds a row that is as good as q.
-    fn outdone(
-        &self,
-        best: &Best<A::Value, B::Value>,
-        q: &Row<A::Value, B::Value>,
-    ) -> bool
+    fn outdone(&self, best: &Best<A::Value, B::Value>, q: &Row<A::Value, B::Value>) -> bool
         requires { q.now.end < 2048 }
         ensures { MatchBool result (Outdone (A.Criterion.meaning self.now.first.now) (B.Criterion.meaning self.now.second.now) q.now best.now.rows) (Foremost (A.Criterion.meaning self.now.first.now) (B.Criterion.meaning self.now.second.now) q.now best.now.rows) }
     {
@@ -95,7 +91,12 @@ impl<A: Criterion, B: Criterion> Renewal<'_, A, B> {
         requires follows { Follows (A.Criterion.meaning self.now.first.now) (B.Criterion.meaning self.now.second.now) self.now.roads.now self.now.rows.now i j }
         ensures { Tried (A.Criterion.meaning self.now.first.now) (B.Criterion.meaning self.now.second.now) self.now.roads.now self.now.base self.now.rows.now i j self.now.links.now.last best.old.rows best.new.rows }
     {
-        let q = self.extension(&self.rows[i as usize], &self.roads[j], self.base + i, j as u32);
+        let q = self.extension(
+            &self.rows[i as usize],
+            &self.roads[j],
+            self.base + i,
+            j as u32,
+        );
         self.offer(best, q);
     }
 
