@@ -1,6 +1,5 @@
 pub mod Appends
 pub mod Begins
-pub mod Choosing
 pub mod Links
 pub mod Offers
 pub mod Renewals
