@@ -1,25 +1,69 @@
 -- The rows that a check has passed, one by one.
-use Rattle.std.proofs.Common.{◌≡◌, ℕ, ◌+◌, ◌<◌, ◌≤◌, min, Bool, false, List, length, get_or, Decides, sym, ap, ◌∙◌, subst, ⊎_elim, arith}
-use Rattle.std.proofs.lemmas.List.{get_or_default}
-use Rattle.std.proofs.lemmas.Bool.{cases_lt, true≢false, false≢true}
+use Rattle.std.proofs.Common.{◌≡◌, ℕ, ◌+◌, ◌<◌, ◌≤◌, min, Bool, true, false, ◌↔◌, List, length, get_or, take, MatchBool, HoldsAt, refl, Some, None, Option, nat_eq, Decides, sym, ap, ◌∙◌, subst, ⊎_elim, get_or-take, eqb-true, eq-eqb, arith}
+use Rattle.std.specs.List.{AllWithin}
+use Rattle.std.specs.Option.{option_eq}
+use Rattle.std.proofs.lemmas.List.{length-take-le}
+use Rattle.std.proofs.lemmas.Bool.{cases_lt, false≢true}
 use Rattle.criteria.specs.Meaning.{Meaning}
 use Rattle.rows.specs.declared.row.Row.{Row}
 use Rattle.rows.specs.declared.sheet.Sheet.{Sheet}
 use Rattle.rows.specs.Places.{RowAt}
-use Rattle.rows.specs.Sound.{LawfulRow, SheetSound}
-use Rattle.rows.proofs.Sources.{same_row}
+use Rattle.rows.specs.declared.row.Source.{Source}
+use Rattle.rows.specs.declared.row.Source.TheVariants.{Empty, Extend, Pair, Taken}
+use Rattle.rows.specs.Sound.{Made, LawfulRow, SheetSound}
+use Rattle.rows.proofs.Sources.{same_row, same_value, no_value}
 
 -- what the answer false decides
 pub denied : {P : Type 0} → (P → ⊥) → Decides false P
 denied f = (λ e. absurd (false≢true e), λ p. absurd (f p))
 
--- a test that failed shows that what it decides does not hold
-pub failed : {P : Type 0} (r : Bool) → Decides r P → r ≡ false → P → ⊥
-failed r d e p = true≢false (sym (d.1 p) ∙ e)
-
 -- what a read past the end of a list of sheets would give
 abbrev pub unread : Sheet
 unread = record { origin = 0; reach = 0; start = 0; len = 0 }
+
+-- a test of each sheet in turn decides whether it holds of all
+pub all_decide : (P : Sheet → Type 0) (sheets : List Sheet) (r : Bool) → MatchBool r (AllWithin P sheets 0 (length sheets)) ((k : ℕ) × (k < length sheets) × HoldsAt (λ d. P d → ⊥) sheets k) → Decides r ((i : ℕ) (d : Sheet) → i < length sheets → P (get_or sheets i d))
+all_decide P sheets true all = (λ _. λ i d lt. all i d (omega arith) lt, λ _. refl)
+all_decide P sheets false (k, lt, fails) = denied (λ all. fails unread (all k unread lt))
+
+-- whether a number is there and is that one
+pub same_number : (o : Option ℕ) (n : ℕ) → Decides (option_eq nat_eq o (Some n)) (o ≡ Some n)
+same_number None n = (λ e. absurd (false≢true e), λ e. absurd (no_value (sym e)))
+same_number (Some m) n = (λ e. ap Some (eqb-true m n e), λ e. eq-eqb m n (same_value e))
+
+module _ {V W : Type 0} (t : List (Row V W)) (k : ℕ) (within : k ≤ length t) where
+  -- the first k rows stand where they do in the table
+  long : length (take k t) ≡ k
+  long = length-take-le k t within
+
+  row_in : (i : ℕ) (p : Row V W) → i < k → RowAt t i p → RowAt (take k t) i p
+  row_in i p lt (_, is) = (omega (arith, long), λ d. get_or-take k t i d lt ∙ is d)
+
+  row_out : (i : ℕ) (p : Row V W) → RowAt (take k t) i p → RowAt t i p
+  row_out i p (lt, is) = (omega (arith, long), λ d. sym (get_or-take k t i d (omega (arith, long))) ∙ is d)
+
+  -- so the number of roads of a row behind them follows from them as from the table
+  pub made_cut : (roads n : ℕ) (s : Source) → Made roads (take k t) (length (take k t)) n s ↔ Made roads t k n s
+  made_cut roads n Empty = (λ e. e, λ e. e)
+  made_cut roads n (Extend i j) = (
+    λ x. record { early = omega (arith, long, x.early); road = x.road; count = λ p at. x.count p (row_in i p (omega (arith, long, x.early)) at) },
+    λ x. record { early = omega (arith, long, x.early); road = x.road; count = λ p at. x.count p (row_out i p at) },
+  )
+  made_cut roads n (Pair i j) = (
+    λ x. record { early = omega (arith, long, x.early); later = omega (arith, long, x.later); count = λ p q at at'. x.count p q (row_in i p (omega (arith, long, x.early)) at) (row_in j q (omega (arith, long, x.later)) at') },
+    λ x. record { early = omega (arith, long, x.early); later = omega (arith, long, x.later); count = λ p q at at'. x.count p q (row_out i p at) (row_out j q at') },
+  )
+  made_cut roads n (Taken i) = (
+    λ x. record { early = omega (arith, long, x.early); count = λ p at. x.count p (row_in i p (omega (arith, long, x.early)) at) },
+    λ x. record { early = omega (arith, long, x.early); count = λ p at. x.count p (row_out i p at) },
+  )
+
+  -- and it may stand there
+  pub lawful_cut : (a : Meaning V) (b : Meaning W) (places roads reach : ℕ) (r : Row V W) → LawfulRow a b places roads (take k t) reach (length (take k t)) r ↔ LawfulRow a b places roads t reach k r
+  lawful_cut a b places roads reach r = (
+    λ x. record { fits = x.fits; made = (made_cut roads r.roads r.source).0 x.made },
+    λ x. record { fits = x.fits; made = (made_cut roads r.roads r.source).1 x.made },
+  )
 
 module _ {V W : Type 0} (a : Meaning V) (b : Meaning W) (places roads : ℕ) (table : List (Row V W)) where
   -- each row from one index up to another may stand where it does
@@ -45,12 +89,3 @@ module _ {V W : Type 0} (a : Meaning V) (b : Meaning W) (places roads : ℕ) (ta
 
   pub lawful_at : (s : Sheet) (k : ℕ) (r : Row V W) → s.start ≤ k → k < min (s.start + s.len) (length table) → RowAt table k r → SheetSound a b places roads table s → LawfulRow a b places roads table s.reach k r
   lawful_at s k r h l at sound = sound.rows k r h (omega arith) at
-
-  -- the sheets up to an index are sound, and so is that one
-  pub sheets_more : (sheets : List Sheet) (k : ℕ) → ((i : ℕ) (d : Sheet) → i < k → SheetSound a b places roads table (get_or sheets i d)) → k < length sheets → SheetSound a b places roads table (get_or sheets k unread) → (i : ℕ) (d : Sheet) → i < k + 1 → SheetSound a b places roads table (get_or sheets i d)
-  sheets_more sheets k below h here i d l =
-      ⊎_elim (below i d)
-      (λ ge.
-      let same : k ≡ i = omega arith in
-      subst (SheetSound a b places roads table) (get_or_default sheets k unread d h ∙ ap (λ j. get_or sheets j d) same) here)
-      (cases_lt i k)

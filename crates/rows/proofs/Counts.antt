@@ -1,78 +1,14 @@
 -- The rows of a place among those of a sheet, one by one.
-use Rattle.std.proofs.Common.{◌≡◌, ℕ, ◌+◌, ◌-◌, ◌<◌, ◌≤◌, min, true, false, cond, eqb, List, [], ◌∷◌, ◌++◌, length, get_or, take, drop, Some, None, Option, sym, refl, ap, ◌∙◌, subst, ⊎_elim, append-nil, arith, length-append, length-drop, take-append-drop, length-take, eq-eqb, ne_eqb, MatchOption}
-use Rattle.std.proofs.lemmas.List.{get_or-take, get_or-drop, get_or_at, take_all, take_more, drop_more, length_push, nil_from_length}
-use Rattle.std.proofs.lemmas.Bool.{cases_lt}
+use Rattle.std.proofs.Common.{◌≡◌, ℕ, ◌+◌, ◌-◌, ◌<◌, min, List, length, drop, sym, ap, ◌∙◌, arith, length-drop, length-take}
+use Rattle.std.proofs.lemmas.List.{get_or-take, get_or-drop}
 use Rattle.rows.specs.declared.row.Row.{Row}
 use Rattle.rows.specs.declared.sheet.Sheet.{Sheet}
-use Rattle.rows.specs.Places.{RowAt, rows_at, rows_of, Position, StandsAt}
+use Rattle.rows.specs.Places.{rows_of, Position, StandsAt}
 
 module _ {V W : Type 0} where
-  -- the rows of a place in two lists
-  pub rows-++ : (place : ℕ) (xs ys : List (Row V W)) → rows_at place (xs ++ ys) ≡ rows_at place xs ++ rows_at place ys
-  rows-++ place [] ys = refl
-  rows-++ place (x ∷ xs) ys =
-      elim (eqb x.end place) as (λ b. cond b (x ∷ rows_at place (xs ++ ys)) (rows_at place (xs ++ ys)) ≡ cond b (x ∷ rows_at place xs) (rows_at place xs) ++ rows_at place ys) [
-        | true ↦ ap (λ l. x ∷ l) (rows-++ place xs ys)
-        | false ↦ rows-++ place xs ys
-      ]
-
-  -- a row of the place, alone
-  alone_here : (place : ℕ) (r : Row V W) → r.end ≡ place → rows_at place (r ∷ []) ≡ r ∷ []
-  alone_here place r e = ap (λ b. cond b (r ∷ []) []) (eq-eqb r.end place e)
-
-  alone_not : (place : ℕ) (r : Row V W) → (r.end ≡ place → ⊥) → rows_at place (r ∷ []) ≡ []
-  alone_not place r e = ap (λ b. cond b (r ∷ []) []) (ne_eqb r.end place e)
-
-  one_more : (place : ℕ) (xs : List (Row V W)) (i : ℕ) (r : Row V W) → RowAt xs i r → rows_at place (take (i + 1) xs) ≡ rows_at place (take i xs) ++ rows_at place (r ∷ [])
-  one_more place xs i r (h, is) =
-      ap (rows_at place) (take_more xs i r h ∙ ap (λ q. take i xs ++ q ∷ []) (is r)) ∙ rows-++ place (take i xs) (r ∷ [])
-
-  -- n of the first i rows end at the place
-  pub record Counted (place : ℕ) (xs : List (Row V W)) (i n : ℕ) : Type 0 where
-    pub is : n ≡ length (rows_at place (take i xs))
-    pub few : n ≤ i
-
-  pub counted_none : (place : ℕ) (xs : List (Row V W)) (i : ℕ) → i ≡ 0 → Counted place xs i 0
-  counted_none place xs i e = record { is = sym (ap (λ j. length (rows_at place (take j xs))) e); few = omega arith }
-
-  pub counted_here : (place : ℕ) (xs : List (Row V W)) (i j n : ℕ) (r : Row V W) → Counted place xs i n → j ≡ i + 1 → RowAt xs i r → r.end ≡ place → Counted place xs j (n + 1)
-  counted_here place xs i j n r c s at e =
-      let more : rows_at place (take j xs) ≡ rows_at place (take i xs) ++ r ∷ [] = ap (λ k. rows_at place (take k xs)) s ∙ one_more place xs i r at ∙ ap (λ l. rows_at place (take i xs) ++ l) (alone_here place r e) in
-      record { is = omega (arith, ap length more, length_push (rows_at place (take i xs)) r, c.is); few = omega (arith, c.few) }
-
-  pub counted_not : (place : ℕ) (xs : List (Row V W)) (i j n : ℕ) (r : Row V W) → Counted place xs i n → j ≡ i + 1 → RowAt xs i r → (r.end ≡ place → ⊥) → Counted place xs j n
-  counted_not place xs i j n r c s at e =
-      let more : rows_at place (take j xs) ≡ rows_at place (take i xs) = ap (λ k. rows_at place (take k xs)) s ∙ one_more place xs i r at ∙ ap (λ l. rows_at place (take i xs) ++ l) (alone_not place r e) ∙ append-nil (rows_at place (take i xs)) in
-      record { is = c.is ∙ ap length (sym more); few = omega (arith, c.few) }
-
-  pub counted_all : (place : ℕ) (xs : List (Row V W)) (i n : ℕ) → Counted place xs i n → length xs ≤ i → n ≡ length (rows_at place xs)
-  counted_all place xs i n c h = c.is ∙ ap (λ l. length (rows_at place l)) (take_all i xs h)
-
-  -- the row behind n others of its place is that of index n
-  pub among_at : (place : ℕ) (xs : List (Row V W)) (i n : ℕ) (r : Row V W) → Counted place xs i n → RowAt xs i r → r.end ≡ place → RowAt (rows_at place xs) n r
-  among_at place xs i n r c (h, is) e =
-      let front = rows_at place (take i xs) in
-      let back = rows_at place (drop (i + 1) xs) in
-      let split : xs ≡ take i xs ++ (r ∷ drop (i + 1) xs) = sym (take-append-drop i xs) ∙ ap (λ l. take i xs ++ l) (drop_more xs i r h ∙ ap (λ q. q ∷ drop (i + 1) xs) (is r)) in
-      let rows : rows_at place xs ≡ front ++ r ∷ back =
-      ap (rows_at place) split ∙ rows-++ place (take i xs) (r ∷ drop (i + 1) xs) ∙ ap (λ l. front ++ l) (rows-++ place (r ∷ []) (drop (i + 1) xs) ∙ ap (λ l. l ++ back) (alone_here place r e)) in
-      subst (λ l. RowAt l n r) (sym rows) (omega (arith, length-append front (r ∷ back), c.is), λ d. get_or_at front r back d n (sym c.is))
-
   -- how many rows of a sheet the table has
   pub many : (s : Sheet) (t : List (Row V W)) → length (rows_of s t) ≡ min s.len (length t - s.start)
   many s t = length-take s.len (drop s.start t) ∙ ap (λ n. min s.len n) (length-drop s.start t)
-
-  -- they are those between the sheet's start and its end, or the table's
-  pub part_is : (s : Sheet) (t : List (Row V W)) (e : ℕ) → e ≡ min (s.start + s.len) (length t) → s.start < e → take (e - s.start) (drop s.start t) ≡ rows_of s t
-  part_is s t e is h =
-      ⊎_elim
-      (λ lt. take_all (e - s.start) (drop s.start t) (omega (arith, length-drop s.start t)) ∙ sym (take_all s.len (drop s.start t) (omega (arith, length-drop s.start t))))
-      (λ ge. let same : e - s.start ≡ s.len = omega arith in ap (λ n. take n (drop s.start t)) same)
-      (cases_lt (length t) (s.start + s.len))
-
-  -- there are none past the table's end
-  pub part_none : (s : Sheet) (t : List (Row V W)) (e : ℕ) → e ≡ min (s.start + s.len) (length t) → e ≤ s.start → [] ≡ rows_of s t
-  part_none s t e is h = sym (nil_from_length (rows_of s t) (omega (arith, many s t)))
 
   -- where a row of the sheet stands in the table
   pub stands_at : (s : Sheet) (t : List (Row V W)) (place i k : ℕ) → Position (rows_of s t) place i k → StandsAt t s place i (s.start + k)
@@ -86,14 +22,3 @@ module _ {V W : Type 0} where
         stands = (omega (arith, many s t), λ d. sym (get_or-drop s.start t k d) ∙ sym (get_or-take s.len (drop s.start t) k d within) ∙ is d);
         among = p.among;
       }
-
-  -- the row read where one stands is that one
-  pub read_stands : (s : Sheet) (t : List (Row V W)) (place i k : ℕ) (r : Row V W) → StandsAt t s place i k → r ≡ get_or t k r → RowAt (rows_at place (rows_of s t)) i r
-  read_stands s t place i k r st is =
-      let same : st.row ≡ r = sym (st.stands.1 r) ∙ sym is in
-      subst (RowAt (rows_at place (rows_of s t)) i) same st.among
-
-  -- what the row behind all others but one says of the last row
-  pub last_row : {T : Type 0} (now : T → Row V W) (xs : List (Row V W)) (n i : ℕ) → n ≡ length xs → 0 < n → i ≡ n - 1 → (o : Option T) → MatchOption o (length xs ≤ i) (λ x. RowAt xs i (now x)) → MatchOption o (length xs ≡ 0) (λ x. RowAt xs (length xs - 1) (now x))
-  last_row now xs n i is h e None few = absurd (omega arith)
-  last_row now xs n i is h e (Some x) at = subst (λ j. RowAt xs j (now x)) (e ∙ ap (λ m. m - 1) is) at

@@ -12,7 +12,7 @@ module _ {V W : Type 0} where
   row_exists (r ∷ rs) zero h = (r, (h, λ d. refl))
   row_exists (r ∷ rs) (suc i) h = let (p, (l, e)) = row_exists rs i (omega arith) in (p, (h, e))
 
-  at_tail : (r : Row V W) (rs : List (Row V W)) (i : ℕ) (p : Row V W) → RowAt rs i p → RowAt (r ∷ rs) (suc i) p
+  pub at_tail : (r : Row V W) (rs : List (Row V W)) (i : ℕ) (p : Row V W) → RowAt rs i p → RowAt (r ∷ rs) (suc i) p
   at_tail r rs i p (h, e) = (omega arith, e)
 
   from_tail : (r : Row V W) (rs : List (Row V W)) (i : ℕ) (p : Row V W) → RowAt (r ∷ rs) (suc i) p → RowAt rs i p

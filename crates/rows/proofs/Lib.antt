@@ -1,3 +1,4 @@
+pub mod Chains
 pub mod Checks
 pub mod Counts
 pub mod Filter

@@ -1,9 +1,18 @@
 -- What a row's source asks, from the rows that it names.
-use Rattle.std.proofs.Common.{◌≡◌, ℕ, ◌+◌, ◌<◌, ◌≤◌, eqb, List, length, get_or, Decides, sym, refl, ap, ◌∙◌, arith, eq-eqb, eqb-true}
+use Rattle.std.proofs.Common.{◌≡◌, ℕ, ◌+◌, ◌<◌, ◌↔◌, List, length, get_or, Some, None, Option, option_map, slice_get, sym, ap, ◌∙◌, ⊎_elim, arith}
+use Rattle.std.specs.Option.{unwrap_or}
+use Rattle.std.proofs.lemmas.Option.{slice_get_cases}
 use Rattle.std.proofs.lemmas.List.{get_or_default}
 use Rattle.rows.specs.declared.row.Row.{Row}
 use Rattle.rows.specs.Places.{RowAt}
 use Rattle.rows.specs.Sound.{Before, Extended, Paired, TakenOver}
+
+-- two values that are there are one, and none is there where one is
+pub same_value : {A : Type 0} {x y : A} → Some x ≡ Some y → x ≡ y
+same_value {x = x} e = ap (λ o. unwrap_or o x) e
+
+pub no_value : {A : Type 0} {x : A} → Some x ≡ None → ⊥
+no_value e = let z : ◌≡◌ {A = ℕ} 0 1 = ap (λ o. unwrap_or (option_map (λ _. 0) o) 1) e in omega (arith, z)
 
 module _ {V W : Type 0} where
   -- the row that a read below the length gives, by whichever default
@@ -18,21 +27,39 @@ module _ {V W : Type 0} where
   pub same_row : (t : List (Row V W)) (i : ℕ) (p q : Row V W) → RowAt t i p → RowAt t i q → p ≡ q
   same_row t i p q (_, e) (_, f) = sym (e p) ∙ f p
 
-  pub read_before : (t : List (Row V W)) (k i : ℕ) (d : Row V W) → i < k → k ≤ length t → Before t k i (get_or t i d).roads
-  read_before t k i d h l = record { early = h; row = get_or t i d; stands = read_at t i d (omega arith); count = refl }
+  -- what is read of an index of the rows before the next one
+  pub before_read : (t : List (Row V W)) (i m : ℕ) → option_map (λ r. r.roads) (slice_get t i) ≡ Some m → Before t (length t) i m
+  before_read t i m e =
+      ⊎_elim
+      (λ (x, lt, is, at). record { early = lt; row = x; stands = (lt, λ d. get_or_default t i d x lt ∙ at); count = same_value (sym (ap (option_map (λ r. r.roads)) is) ∙ e) })
+      (λ (le, none). absurd (no_value (sym e ∙ ap (option_map (λ r. r.roads)) none)))
+      (slice_get_cases t i).1
+
+  -- the row that was read below the length
+  taken_read : (t : List (Row V W)) (i n : ℕ) → TakenOver t (length t) n i → option_map (λ r. r.roads) (slice_get t i) ≡ Some n
+  taken_read t i n x =
+      ⊎_elim
+      (λ (r, lt, is, at). ap (option_map (λ q. q.roads)) is ∙ ap Some (sym (x.count r (lt, λ d. get_or_default t i d r lt ∙ at))))
+      (λ (le, none). absurd (omega (arith, x.early)))
+      (slice_get_cases t i).1
 
   -- any row at i has as many roads
   counted : (t : List (Row V W)) (k i n : ℕ) → Before t k i n → (p : Row V W) → RowAt t i p → p.roads ≡ n
   counted t k i n b p at = ap (λ r. r.roads) (same_row t i p b.row at b.stands) ∙ b.count
 
-  pub extended_decides : (roads : ℕ) (t : List (Row V W)) (k n i j m : ℕ) → Before t k i m → j < roads → Decides (eqb n (m + 1)) (Extended roads t k n i j)
-  extended_decides roads t k n i j m b h =
-      (λ e. record { early = b.early; road = h; count = λ p at. omega (arith, eqb-true n (m + 1) e, counted t k i m b p at) }, λ x. eq-eqb n (m + 1) (omega (arith, x.count b.row b.stands, b.count)))
+  -- what follows from a row and a road, from two rows, and from a row taken over
+  pub extended_iff : (roads : ℕ) (t : List (Row V W)) (k i j m : ℕ) → Before t k i m → j < roads → (n : ℕ) → (Some (m + 1) ≡ Some n) ↔ Extended roads t k n i j
+  extended_iff roads t k i j m b h n =
+      (λ e. record { early = b.early; road = h; count = λ p at. omega (arith, same_value e, counted t k i m b p at) }, λ x. let is : m + 1 ≡ n = omega (arith, x.count b.row b.stands, b.count) in ap Some is)
 
-  pub paired_decides : (t : List (Row V W)) (k n i j l m : ℕ) → Before t k i l → Before t k j m → Decides (eqb n (l + m)) (Paired t k n i j)
-  paired_decides t k n i j l m b c =
-      (λ e. record { early = b.early; later = c.early; count = λ p q at at'. omega (arith, eqb-true n (l + m) e, counted t k i l b p at, counted t k j m c q at') }, λ x. eq-eqb n (l + m) (omega (arith, x.count b.row c.row b.stands c.stands, b.count, c.count)))
+  pub paired_iff : (t : List (Row V W)) (k i j l m : ℕ) → Before t k i l → Before t k j m → (n : ℕ) → (Some (l + m) ≡ Some n) ↔ Paired t k n i j
+  paired_iff t k i j l m b c n =
+      (λ e. record { early = b.early; later = c.early; count = λ p q at at'. omega (arith, same_value e, counted t k i l b p at, counted t k j m c q at') }, λ x. let is : l + m ≡ n = omega (arith, x.count b.row c.row b.stands c.stands, b.count, c.count) in ap Some is)
 
-  pub taken_decides : (t : List (Row V W)) (k n i m : ℕ) → Before t k i m → Decides (eqb n m) (TakenOver t k n i)
-  taken_decides t k n i m b =
-      (λ e. record { early = b.early; count = λ p at. omega (arith, eqb-true n m e, counted t k i m b p at) }, λ x. eq-eqb n m (omega (arith, x.count b.row b.stands, b.count)))
+  pub taken_iff : (t : List (Row V W)) (i : ℕ) (o : Option ℕ) → o ≡ option_map (λ r. r.roads) (slice_get t i) → (n : ℕ) → (o ≡ Some n) ↔ TakenOver t (length t) n i
+  taken_iff t i o is n = (
+    λ e.
+        let b = before_read t i n (sym is ∙ e) in
+        record { early = b.early; count = λ p at. sym (counted t (length t) i n b p at) },
+    λ x. is ∙ taken_read t i n x,
+  )

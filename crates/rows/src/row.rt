@@ -1,7 +1,7 @@
 ghost use Rattle.std.specs.Prelude.{◌≡◌};
 
 // Where a row comes from. Rows are named by their places in the row table.
-#[derive(Clone, Copy)]
+#[derive(Clone, Copy, Debug, PartialEq, Eq)]
 pub enum Source {
     // The empty trip.
     Empty,
@@ -14,7 +14,7 @@ pub enum Source {
 }
 
 // One efficient trip: the place where it ends, its values by the two criteria, its number of roads and its source.
-#[derive(Clone, Copy)]
+#[derive(Clone, Copy, Debug, PartialEq, Eq)]
 pub struct Row<X, Y> {
     pub end: u32,
     pub first: X,

@@ -1,7 +1,7 @@
 ghost use Rattle.std.specs.Prelude.{◌≡◌, ◌+◌, ◌^◌, ◌<◌, min};
 
 // The rows of all trips of one plan: its origin, the most roads that a row of it has, and where its rows stand in the row table.
-#[derive(Clone, Copy)]
+#[derive(Clone, Copy, Debug, PartialEq, Eq)]
 pub struct Sheet {
     pub origin: u32,
     pub reach: u32,
@@ -15,7 +15,6 @@ impl Sheet {
         ensures end { result ≡ min (self.now.start + self.now.len) rows }
         ensures few { result < self.now.start + 2 ^ 32 }
     {
-        let end = self.start as usize + self.len as usize;
-        if end < rows { end } else { rows }
+        rows.min(self.start as usize + self.len as usize)
     }
 }

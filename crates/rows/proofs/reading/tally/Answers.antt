@@ -1,22 +1,11 @@
-use Rattle.std.proofs.Common.{◌+◌, get_or, sym, refl, subst, arith}
-use Rattle.rows.proofs.Sources.{read_at}
-use Rattle.rows.proofs.Counts.{Counted, counted_none, counted_here, counted_not, counted_all}
+use Rattle.std.proofs.Common.{length, nat_eq, ap, ◌∙◌, rules, tests}
+use Rattle.std.proofs.lemmas.Iterator.{YieldsList-from_slice}
+use Rattle.std.proofs.lemmas.Iterator.Consumers.{YieldsList-from_filter, count_from_yields_List}
+use Rattle.rows.proofs.Chains.{rows_pass}
 use Rattle.rows.proofs.reading.tally.Goals as goal
-use Rattle.rows.proofs.reading.tally.Goals.{then-rows-k, else-rows-k}
 
-pub loop-k-init : goal.loop-k-init
-loop-k-init g c = counted_none c.args.place c.args.rows.now 0 refl
-
-pub loop-k-preserved : goal.loop-k-preserved
-loop-k-preserved g c =
-    let t = c.args.rows.now in
-    let k = c.loop-k.k in
-    let r = get_or t k c.index-rows-k.result in
-    let at = read_at t k c.index-rows-k.result (omega arith) in
-    elim c.if-rows-k.branch [
-      | then-rows-k w ↦ subst (Counted c.args.place t (k + 1)) (sym w.count-is) (counted_here c.args.place t k (k + 1) c.loop-k.count r c.loop-k.invariant refl at w.if-rows-k.true)
-      | else-rows-k w ↦ subst (Counted c.args.place t (k + 1)) (sym w.count-is) (counted_not c.args.place t k (k + 1) c.loop-k.count r c.loop-k.invariant refl at w.if-rows-k.false)
-    ]
-
-pub returns : goal.returns
-returns g c = record { count = counted_all c.args.place c.args.rows.now c.loop-k.k c.loop-k.count c.loop-k.invariant (omega arith); few = omega (arith, c.loop-k.invariant.few) }
+pub returns-clause-count : goal.returns-clause-count
+returns-clause-count g c =
+    let place = c.args.place in
+    count_from_yields_List c.filter.result c.count.result c.count.ensures.ran (YieldsList-from_filter _ (λ r. nat_eq r.end place) (YieldsList-from_slice c.args.rows.now (cc)) c.filter.ensures.closure (λ x b q k. search (rules, tests)))
+    ∙ ap length (rows_pass place c.args.rows.now)

@@ -1,5 +1,0 @@
-use Rattle.rows.proofs.Counts.{Counted}
-use Rattle.rows.proofs.reading.tally.Given as goal
-
-abbrev pub invariant-loop-k : goal.invariant-loop-k
-invariant-loop-k g l = Counted l.place l.rows l.k l.count
