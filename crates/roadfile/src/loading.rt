@@ -29,16 +29,10 @@ pub fn load(file: &[u8], table: &mut [Road]) -> Result<Network, LoadFault>
     let mut offset = 0;
     while let Some(item) = reader.next()? {
         offset = item.offset;
-        if let Err(fault) = add(&item.record, &mut draft, table) {
-            return Err(LoadFault { fault, offset });
-        }
+        add(&item.record, &mut draft, table).map_err(|fault| fault.at(offset))?;
     }
     reader.finish()?;
-    match draft.close(table) {
-        Ok(network) => Ok(network),
-        Err(unclosed) => Err(LoadFault {
-            fault: FileFault::from(unclosed.fault),
-            offset,
-        }),
-    }
+    draft
+        .close(table)
+        .map_err(|unclosed| FileFault::from(unclosed.fault).at(offset))
 }
