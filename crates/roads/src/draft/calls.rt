@@ -74,7 +74,13 @@ impl Draft {
         ensures { Laid self.old table.old start end marks result self.new table.new }
     {
         self.check_table(table)?;
-        if start >= self.places || end >= self.places {
+        let road = Road {
+            start,
+            end,
+            marks,
+            open: true,
+        };
+        if !road.within(self.places) {
             return Err(DraftFault::UnknownPlace);
         }
         let number = self.roads;
@@ -82,12 +88,7 @@ impl Draft {
         if number >= ROADS || at >= table.len() {
             return Err(DraftFault::RoadsFull);
         }
-        table[at] = Road {
-            start,
-            end,
-            marks,
-            open: true,
-        };
+        table[at] = road;
         self.roads = number + 1;
         Ok(number)
     }
