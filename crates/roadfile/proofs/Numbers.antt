@@ -11,7 +11,7 @@ joined l front rest k n first behind is =
     sym (take-append-drop k l) ∙ ap (λ x. x ++ drop k l) (sym first ∙ sym is) ∙ ap (λ x. little k n ++ x) (sym behind)
 
 -- a number of 32 bits, as std spells its bytes
-spelled : (n : ℕ) → little 4 n ≡ to_le_bytes w32 n
+pub spelled : (n : ℕ) → little 4 n ≡ to_le_bytes w32 n
 spelled n =
     let third : n / 256 / 256 ≡ n / 65536 = omega arith in
     let fourth : n / 256 / 256 / 256 ≡ n / 16777216 = omega arith in
