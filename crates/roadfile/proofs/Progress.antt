@@ -1,13 +1,10 @@
 -- How far a loading has come, and what each way out of it shows.
 use Rattle.std.proofs.Common.{◌≡◌, ℕ, ◌+◌, ◌-◌, ◌<◌, Bool, true, false, List, [], ◌∷◌, ◌++◌, map, length, take, drop, Some, Ok, Err, Result, sym, refl, ap, ◌∙◌, subst, inr, arith, length-append, length-drop}
 use Rattle.std.specs.List.{flat_map}
-use Rattle.std.specs.Result.{MatchResult, IsErrAnd}
 use Rattle.std.proofs.lemmas.List.{take_at, drop_at}
-use Rattle.roads.specs.Drafts.{ClosingRefused, Closed}
+use Rattle.roads.specs.Drafts.{Closed}
 use Rattle.roads.specs.Tables.{turned, opened}
 use Rattle.roads.specs.declared.draft.Draft.{Draft}
-use Rattle.roads.specs.declared.draft.calls.Unclosed.{Unclosed}
-use Rattle.roads.specs.declared.fault.DraftFault.{DraftFault}
 use Rattle.roads.specs.declared.fault.DraftFault.TheVariants.{UnknownPlace, PlacesFull, RoadsFull, NoPlace, ForeignTable}
 use Rattle.roads.specs.declared.network.Network.{Network}
 use Rattle.roads.specs.declared.road.Road.{Road}
@@ -17,7 +14,7 @@ use Rattle.roadfile.specs.declared.fault.LoadFault.{LoadFault}
 use Rattle.roadfile.specs.declared.reader.Reader.{Reader}
 use Rattle.roadfile.specs.declared.reader.Item.{Item}
 use Rattle.roadfile.specs.Format.{Entry, place, road, remark, finish, entry, header, written, ends}
-use Rattle.roadfile.specs.Loading.{roads_of, count_of, Added, Fills, Stops, place_of, Broken, Whole, Loaded}
+use Rattle.roadfile.specs.Loading.{roads_of, count_of, Added, AddedAt, Fills, Stops, NotClosed, ClosedAt, place_of, Broken, Whole, Loaded}
 use Rattle.roadfile.specs.Reading.{Leads, left_of, offset_of, Opened, Handed, Ended}
 use Rattle.roadfile.proofs.Records.{leads_length}
 use Rattle.roadfile.proofs.Filling.{Drafted, adds, refuses, drafts_fault, fills_more}
@@ -99,18 +96,17 @@ module _ (file : List ℕ) (t : List Road) where
         } in
         elim (ends e) as (λ b. (ends e ≡ b → Sofar file t s' d' t'' i.offset)) [ true ↦ halt | false ↦ go ] refl
 
-    -- a record that was refused, and the fault g that tells it
-    pub refused : (i : Item) (s' : Reader) (d' : Draft) (t'' : List Road) (f : FileFault) (g : LoadFault) → Handed s (Ok (Some i)) s' → Added (entry i.record) d t' (Err f) d' t'' → g.fault ≡ f → g.offset ≡ i.offset → Broken file t g.fault g.offset t''
-    refused i s' d' t'' f g (on, l, at_i, rest, size, stop) a is at_g =
+    pub refused : (i : Item) (s' : Reader) (d' : Draft) (t'' : List Road) (f : LoadFault) → Handed s (Ok (Some i)) s' → AddedAt i.offset (entry i.record) d t' (Err f) d' t'' → Broken file t f.fault f.offset t''
+    refused i s' d' t'' f (on, l, at_i, rest, size, stop) (a, at_f) =
         let e = entry i.record in
-        let (why, same) = refuses t e h.before d d' t' t'' h.left f h.drafted (leads_here e on l) a in
-        let (draft, is_draft) = drafts_fault e d d' t' t'' f a in
+        let (why, same) = refuses t e h.before d d' t' t'' h.left f.fault h.drafted (leads_here e on l) a in
+        let (g, is) = drafts_fault e d d' t' t'' f.fault a in
         record {
           before = h.before;
           left = h.left;
           fills = subst (λ x. Fills file t h.before h.left x) (sym same) h.fills;
-          stops = subst (Stops (length t) h.before h.left) (sym is) why;
-          told = at_g ∙ at_i ∙ offset_is on ∙ ap (λ x. place_of x file h.left) (sym (is ∙ is_draft));
+          stops = why;
+          told = at_f ∙ at_i ∙ offset_is on ∙ ap (λ x. place_of x file h.left) (sym is);
         }
 
     -- bytes behind the end record
@@ -162,29 +158,30 @@ module _ (file : List ℕ) (t : List Road) where
     }
 
     -- a draft that was filled from a file can only lack a place
-    no_place : (f : DraftFault) → ClosingRefused d t' f → (f ≡ NoPlace) × (d.places ≡ 0)
-    no_place ForeignTable r = absurd (r h.drafted.serves)
-    no_place NoPlace (_, none) = (refl, none)
-    no_place UnknownPlace r = absurd r
-    no_place PlacesFull r = absurd r
-    no_place RoadsFull r = absurd r
+    no_place : (f : FileFault) → NotClosed d t' f → (f ≡ fault.Draft NoPlace) × (d.places ≡ 0)
+    no_place (fault.Draft NoPlace) (_, none) = (refl, none)
+    no_place (fault.Draft ForeignTable) r = absurd (r h.drafted.serves)
+    no_place (fault.Draft UnknownPlace) r = absurd r
+    no_place (fault.Draft PlacesFull) r = absurd r
+    no_place (fault.Draft RoadsFull) r = absurd r
+    no_place fault.Letters r = absurd r
+    no_place fault.Version r = absurd r
+    no_place fault.Cut r = absurd r
+    no_place fault.Form r = absurd r
+    no_place fault.Extra r = absurd r
 
-    -- a closing that was refused, and the fault g that tells it
-    unclosed : (u : Unclosed) (g : LoadFault) (t'' : List Road) → s.done ≡ true → left_of s ≡ [] → Closed d t' (Err u) t'' → g.fault ≡ fault.Draft u.fault → g.offset ≡ at → Broken file t g.fault g.offset t''
-    unclosed u g t'' off none (why, _, same) is at_g =
-        let (which, places) = no_place u.fault why in
+    -- a closing that was refused
+    unclosed : (f : LoadFault) (t'' : List Road) → s.done ≡ true → left_of s ≡ [] → ClosedAt at d t' (Err f) t'' → Broken file t f.fault f.offset t''
+    unclosed f t'' off none (why, at_f, same) =
+        let (is, places) = no_place f.fault why in
         record {
           before = h.before;
           left = h.left;
           fills = subst (λ x. Fills file t h.before h.left x) (sym same) h.fills;
-          stops = subst (Stops (length t) h.before h.left) (sym (is ∙ ap fault.Draft which)) (left_finish off none, sym h.drafted.places ∙ places);
-          told = at_g ∙ (h.done off).1 ∙ ap (λ x. place_of x file h.left) (sym is);
+          stops = subst (Stops (length t) h.before h.left) (sym is) (left_finish off none, sym h.drafted.places ∙ places);
+          told = at_f ∙ (h.done off).1 ∙ ap (λ x. place_of x file h.left) (sym is);
         }
 
-    -- the answer q of a loading, from the answer r of the closing, where P says what became of a refusal
-    pub closes : (r : Result Network Unclosed) (q : Result Network LoadFault) (P : Unclosed → LoadFault → Type 0) (t'' : List Road) → s.done ≡ true → left_of s ≡ [] → Closed d t' r t'' → MatchResult r (λ n. q ≡ Ok n) (λ u. IsErrAnd q (P u)) → ((u : Unclosed) (g : LoadFault) → P u g → (g.fault ≡ fault.Draft u.fault) × (g.offset ≡ at)) → Loaded file t q t''
-    closes (Ok n) q P t'' off none c is told = subst (λ x. Loaded file t x t'') (sym is) (whole n t'' off none c)
-    closes (Err u) (Ok n) P t'' off none c is told = absurd is
-    closes (Err u) (Err g) P t'' off none c is told =
-        let (which, where_is) = told u g is in
-        inr (unclosed u g t'' off none c which where_is)
+    pub closes : (r : Result Network LoadFault) (t'' : List Road) → s.done ≡ true → left_of s ≡ [] → ClosedAt at d t' r t'' → Loaded file t r t''
+    closes (Ok n) t'' off none c = whole n t'' off none c
+    closes (Err f) t'' off none c = inr (unclosed f t'' off none c)
