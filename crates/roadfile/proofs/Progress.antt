@@ -1,6 +1,7 @@
 -- How far a loading has come, and what each way out of it shows.
-use Rattle.std.proofs.Common.{◌≡◌, ℕ, ◌+◌, ◌-◌, ◌<◌, Bool, true, false, List, [], ◌∷◌, ◌++◌, map, length, take, drop, Some, Ok, Err, Result, sym, refl, ap, ◌∙◌, subst, inr, arith, length-append, length-drop}
+use Rattle.std.proofs.Common.{◌≡◌, ℕ, ◌+◌, ◌-◌, ◌<◌, true, false, List, [], ◌∷◌, ◌++◌, map, length, take, drop, Some, Ok, Err, Result, sym, refl, ap, ◌∙◌, subst, inr, arith, length-append, length-drop}
 use Rattle.std.specs.List.{flat_map}
+use Rattle.std.proofs.lemmas.Bool.{false≢true, true≢false}
 use Rattle.std.proofs.lemmas.List.{take_at, drop_at}
 use Rattle.roads.specs.Drafts.{Closed}
 use Rattle.roads.specs.Tables.{turned, opened}
@@ -30,15 +31,12 @@ pub record Sofar (file : List ℕ) (t : List Road) (s : Reader) (d : Draft) (t' 
   pub going : s.done ≡ false → left ≡ left_of s
   pub done : s.done ≡ true → (left ≡ written finish ++ left_of s) × (at ≡ length file - length left)
 
-true_not_false : {b : Bool} → b ≡ true → b ≡ false → ⊥
-true_not_false p q = let z : ◌≡◌ {A = ℕ} 0 1 = cc in omega arith
-
 -- only the end record ends
 ends_is : (e : Entry) → ends e ≡ true → e ≡ finish
 ends_is finish h = refl
-ends_is (place n) h = absurd (true_not_false h refl)
-ends_is (road s e m) h = absurd (true_not_false h refl)
-ends_is (remark x) h = absurd (true_not_false h refl)
+ends_is (place n) h = absurd (false≢true h)
+ends_is (road s e m) h = absurd (false≢true h)
+ends_is (remark x) h = absurd (false≢true h)
 
 -- every record that is handed out leaves less
 pub shrinks : (s s' : Reader) (i : Item) → Handed s (Ok (Some i)) s' → length (left_of s') < length (left_of s)
@@ -57,7 +55,7 @@ module _ (file : List ℕ) (t : List Road) where
     drafted = record { places = p; roads = r; serves = record { long = omega arith; named = λ i x h. absurd (omega arith) }; same = refl; table = refl };
     size = size;
     going = λ _. refl;
-    done = λ h. absurd (true_not_false h not_done);
+    done = λ h. absurd (true≢false (sym h ∙ not_done));
   }
 
   module _ (s : Reader) (d : Draft) (t' : List Road) (at : ℕ) (h : Sofar file t s d t' at) where
@@ -80,7 +78,7 @@ module _ (file : List ℕ) (t : List Road) where
           drafted = after;
           size = size ∙ h.size;
           going = λ _. ap (drop (length (written e))) (h.going on) ∙ sym rest;
-          done = λ is. absurd (true_not_false is (stop ∙ ends_not));
+          done = λ is. absurd (true≢false (sym is ∙ stop ∙ ends_not));
         } in
         let halt : ends e ≡ true → Sofar file t s' d' t'' i.offset = λ ends_so.
         let is = ends_is e ends_so in
@@ -91,7 +89,7 @@ module _ (file : List ℕ) (t : List Road) where
           fills = subst (λ x. Fills file t h.before h.left x) (sym et) h.fills;
           drafted = subst (λ x. Drafted t x h.before t'') (sym ed) (subst (λ x. Drafted t d h.before x) (sym et) h.drafted);
           size = size ∙ h.size;
-          going = λ is_not. absurd (true_not_false (stop ∙ ends_so) is_not);
+          going = λ is_not. absurd (true≢false (sym (stop ∙ ends_so) ∙ is_not));
           done = λ _. (h.going on ∙ l.bytes ∙ ap (λ x. written e ++ x) (sym rest) ∙ ap (λ x. written x ++ left_of s') is, at_i ∙ offset_is on);
         } in
         elim (ends e) as (λ b. (ends e ≡ b → Sofar file t s' d' t'' i.offset)) [ true ↦ halt | false ↦ go ] refl
