@@ -17,10 +17,10 @@ const UNSAID: Road = Road {
 };
 
 // What the loading answered, how many entries of the table it changed, and the sum of their weights.
-#[derive(Clone, Copy)]
+#[derive(Clone, Copy, Debug, PartialEq, Eq)]
 pub struct Loading {
     answer: Result<Network, LoadFault>,
-    changed: u64,
+    changed: usize,
     sum: u64,
 }
 
@@ -29,54 +29,53 @@ impl Loading {
     pub fn of(heap: Global, case: &Case) -> Result<Loading, AllocError> {
         let mut table = vec![in heap; UNSAID; case.room]?;
         let answer = load(case.file.as_slice(), table.as_mut_slice());
-        let mut loading = Loading {
+        Ok(Loading {
             answer,
-            changed: 0,
-            sum: 0,
-        };
-        loading.weigh(table.as_slice());
-        Ok(loading)
+            changed: changed(table.as_slice()),
+            sum: weights(table.as_slice()),
+        })
     }
+}
 
-    // Counts and weighs the entries that have changed: each weighs by its place in the table.
-    fn weigh(&mut self, table: &[Road]) {
-        for (i, road) in table.iter().enumerate() {
-            if !untouched(road) {
-                self.changed = self.changed.wrapping_add(1);
-                self.sum = self
-                    .sum
-                    .wrapping_add((i as u64).wrapping_add(1).wrapping_mul(weight(road)));
-            }
-        }
-    }
+// How many entries have changed.
+fn changed(table: &[Road]) -> usize {
+    table.iter().filter(|road| !untouched(road)).count()
+}
+
+// The sum of the weights of the entries that have changed: each weighs by its place in the table.
+fn weights(table: &[Road]) -> u64 {
+    table
+        .iter()
+        .zip(1_u64..)
+        .filter(|(road, _)| !untouched(road))
+        .fold(0_u64, |sum, (road, place)| {
+            sum.wrapping_add(place.wrapping_mul(weight(road)))
+        })
 }
 
 // Whether the entry is as it stood before the loading.
 fn untouched(road: &Road) -> bool
     ensures { Decides result (road.now ≡ unsaid) }
 {
-    if road.open || road.start != u32::MAX || road.end != u32::MAX {
-        return false;
-    }
-    road.marks == UNSAID.marks
+    *road == UNSAID
 }
 
 // The weight of a road: each of its parts counts by a factor of its own.
 fn weight(road: &Road) -> u64
     ensures { result ≡ weight_of road.now }
 {
-    let marks = road.marks;
-    let open = if road.open { 17 } else { 0 };
+    let [first, second, third, fourth] = road.marks;
     u64::from(road.start)
         + 3 * u64::from(road.end)
-        + 5 * u64::from(marks[0])
-        + 7 * u64::from(marks[1])
-        + 11 * u64::from(marks[2])
-        + 13 * u64::from(marks[3])
-        + open
+        + 5 * u64::from(first)
+        + 7 * u64::from(second)
+        + 11 * u64::from(third)
+        + 13 * u64::from(fourth)
+        + 17 * u64::from(road.open)
 }
 
 // What a layer is called.
+// Kept as a function: the type is another crate's.
 fn name(layer: Layer) -> &'static str
     ensures { result.now ≡ layer_name layer }
 {

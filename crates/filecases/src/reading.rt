@@ -5,28 +5,31 @@ ghost use Rattle.filecases.specs.Told.{text_of};
 use roadfile::{Item, LoadFault, Reader, Record};
 use std::fmt;
 
-// How many records came, the sum of their offsets, the bytes of all names and remarks, and how it ended.
-#[derive(Clone, Copy)]
-pub struct Reading {
+// How many records came, the sum of their offsets, and the bytes of all names and remarks.
+#[derive(Clone, Copy, Debug, Default, PartialEq, Eq)]
+struct Tally {
     records: u64,
     offsets: u64,
     text: u64,
+}
+
+// What came of a file, and how it ended.
+#[derive(Clone, Copy, Debug, PartialEq, Eq)]
+pub struct Reading {
+    tally: Tally,
     end: Result<(), LoadFault>,
 }
 
 impl Reading {
     // Reads a file to its end or to a fault.
     pub fn of(file: &[u8]) -> Reading {
-        let mut reading = Reading {
-            records: 0,
-            offsets: 0,
-            text: 0,
-            end: Ok(()),
-        };
-        reading.end = reading.read(file);
-        reading
+        let mut tally = Tally::default();
+        let end = tally.read(file);
+        Reading { tally, end }
     }
+}
 
+impl Tally {
     // Adds what the file says, and answers how it ended.
     fn read(&mut self, file: &[u8]) -> Result<(), LoadFault> {
         let mut reader = Reader::open(file)?;
@@ -46,16 +49,14 @@ impl Reading {
         reader.finish()
     }
 
-    // Adds one record; how the reading ended stays as it was.
+    // Adds one record.
     fn add(&mut self, item: &Item)
-        ensures end { self.new.end ≡ self.old.end }
         ensures records { self.new.records ≡ (self.old.records + 1) % 2 ^ 64 }
         ensures offsets { self.new.offsets ≡ (self.old.offsets + item.now.offset) % 2 ^ 64 }
         ensures text { self.new.text ≡ (self.old.text + text_of item.now.record) % 2 ^ 64 }
     {
         let text = match item.record {
-            Record::Place(name) => name.len(),
-            Record::Remark(text) => text.len(),
+            Record::Place(text) | Record::Remark(text) => text.len(),
             Record::Road { .. } | Record::End => 0,
         };
         self.records = self.records.wrapping_add(1);
@@ -66,10 +67,14 @@ impl Reading {
 
 impl fmt::Display for Reading {
     fn fmt<W: fmt::Write>(&self, f: &mut fmt::Formatter<W>) -> fmt::Result {
+        let Tally {
+            records,
+            offsets,
+            text,
+        } = self.tally;
         write!(
             f,
-            "read {} records, offsets {}, text {}: ",
-            self.records, self.offsets, self.text
+            "read {records} records, offsets {offsets}, text {text}: "
         )?;
         match self.end {
             Ok(()) => write!(f, "ended"),

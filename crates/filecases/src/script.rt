@@ -2,9 +2,9 @@
 ghost use Rattle.std.specs.Prelude.{ℕ, MatchResult};
 ghost use Rattle.filecases.specs.Digits.{Digit, Digits};
 
-use std::alloc::{AllocError, AllocFailed, Global};
-use std::error::Error;
-use std::fmt;
+use std::alloc::{AllocError, Global};
+use std::num::ParseIntError;
+use thiserror::Error;
 
 // What one line says: how many entries the road table has, and the bytes of the file.
 #[derive(Drop)]
@@ -14,45 +14,21 @@ pub struct Case {
 }
 
 // Why a line says no case.
-#[derive(Debug, Drop)]
+#[derive(Debug, Drop, Error)]
 pub enum Flaw {
-    // A number is expected, and there is none.
-    Number,
-    // Two hexadecimal digits are expected, and there are none.
+    #[error("a number is expected")]
+    Number(#[from] ParseIntError),
+    #[error("two hexadecimal digits are expected")]
     Byte,
-    // There is no memory left.
-    Memory,
-}
-
-impl fmt::Display for Flaw {
-    fn fmt<W: fmt::Write>(&self, f: &mut fmt::Formatter<W>) -> fmt::Result {
-        match self {
-            Flaw::Number => write!(f, "a number is expected"),
-            Flaw::Byte => write!(f, "two hexadecimal digits are expected"),
-            Flaw::Memory => write!(f, "there is no memory left"),
-        }
-    }
-}
-
-impl Error for Flaw {}
-
-impl From<AllocError> for Flaw {
-    fn from(_e: AllocError) -> Flaw {
-        Flaw::Memory
-    }
-}
-
-impl<T: Drop> From<AllocFailed<T>> for Flaw {
-    fn from(_e: AllocFailed<T>) -> Flaw {
-        Flaw::Memory
-    }
+    #[error("there is no memory left")]
+    Memory(#[from(alloc)] AllocError),
 }
 
 impl Case {
     // Reads a line: the number of entries and then the words of the file, a space before each.
     pub fn parse(heap: Global, line: &str) -> Result<Case, Flaw> {
         let mut words = line.split(' ');
-        let room = number(words.next().unwrap_or(""))?;
+        let room = words.next().unwrap_or("").parse::<usize>()?;
         let mut file = Vec::new(heap);
         for word in words {
             add_word(heap, &mut file, word)?;
@@ -64,7 +40,7 @@ impl Case {
 // Adds the bytes of a word to the file: digits, and maybe a `*` and how often their bytes stand there.
 fn add_word(heap: Global, file: &mut Vec<u8>, word: &str) -> Result<(), Flaw> {
     let (digits, times) = match word.split_once('*') {
-        Some((digits, times)) => (digits, number(times)?),
+        Some((digits, times)) => (digits, times.parse::<usize>()?),
         None => (word, 1),
     };
     let unit = bytes(heap, digits)?;
@@ -72,14 +48,6 @@ fn add_word(heap: Global, file: &mut Vec<u8>, word: &str) -> Result<(), Flaw> {
         file.extend_from_slice(unit.as_slice())?;
     }
     Ok(())
-}
-
-// The number that the text says.
-fn number(text: &str) -> Result<usize, Flaw> {
-    match text.parse::<usize>() {
-        Ok(n) => Ok(n),
-        Err(_) => Err(Flaw::Number),
-    }
 }
 
 // The bytes that the digits say, two for each byte.

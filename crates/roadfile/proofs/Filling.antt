@@ -111,10 +111,14 @@ laid t es s e m d d' t' t'' n h (_, from, to, few, room, is, places, roads, put)
       subst (λ x. Drafted t d' (es ++ road s e m ∷ []) x) (sym put) after,
     )
 
+-- no fault is an answer without a fault
+err_not_ok : {A E : Type 0} {x : A} {f : E} → ◌≡◌ {A = Result A E} (Err f) (Ok x) → ⊥
+err_not_ok e = let z : ◌≡◌ {A = ℕ} 0 1 = cc in omega arith
+
 -- an answer without a fault came from one without a fault
 from_ok : (q : Result ℕ DraftFault) → Ok tt ≡ carried q → (n : ℕ) × (q ≡ Ok n)
 from_ok (Ok n) e = (n, refl)
-from_ok (Err f) e = let z : ◌≡◌ {A = ℕ} 0 1 = cc in absurd (omega arith)
+from_ok (Err f) e = absurd (err_not_ok (sym e))
 
 -- what adding a record without a fault leaves
 pub adds : (t : List Road) (e : Entry) (es : List Entry) (d d' : Draft) (t' t'' : List Road) → Drafted t d es t' → Added e d t' (Ok tt) d' t'' → Addable (length t) es e × Drafted t d' (es ++ e ∷ []) t''
@@ -130,7 +134,7 @@ adds t finish es d d' t' t'' h (_, ed, et) = (tt, idle t finish es d d' t' t'' r
 
 -- a fault of the file that came from the draft holds the draft's fault
 from_err : (q : Result ℕ DraftFault) (f : FileFault) → Err f ≡ carried q → (g : DraftFault) × (q ≡ Err g) × (f ≡ fault.Draft g)
-from_err (Ok n) f e = let z : ◌≡◌ {A = ℕ} 0 1 = cc in absurd (omega arith)
+from_err (Ok n) f e = absurd (err_not_ok e)
 from_err (Err g) f e = (g, refl, cc)
 
 -- why the draft refuses a road, by the entries before it
@@ -152,8 +156,8 @@ refuses t (road s e m) es d d' t' t'' left f h l (q, (p, err)) =
     let (g, is, isf) = from_err q f err in
     let (why, _, et) = subst (λ x. Laid d t' s e m x d' t'') is p in
     (subst (Stops (length t) es left) (sym isf) (road_refused t es s e m d t' left g h l why), et)
-refuses t (remark text) es d d' t' t'' left f h l (no_fault, _, _) = let z : ◌≡◌ {A = ℕ} 0 1 = cc in absurd (omega arith)
-refuses t finish es d d' t' t'' left f h l (no_fault, _, _) = let z : ◌≡◌ {A = ℕ} 0 1 = cc in absurd (omega arith)
+refuses t (remark text) es d d' t' t'' left f h l (ok, _, _) = absurd (err_not_ok ok)
+refuses t finish es d d' t' t'' left f h l (ok, _, _) = absurd (err_not_ok ok)
 
 -- a record more that was added
 pub fills_more : (file : List ℕ) (t : List Road) (es : List Entry) (left : List ℕ) (e : Entry) (d' : Draft) (t' t'' : List Road) → Fills file t es left t' → Leads left e → ends e ≡ false → Addable (length t) es e → Drafted t d' (es ++ e ∷ []) t'' → Fills file t (es ++ e ∷ []) (drop (length (written e)) left) t''
@@ -178,5 +182,5 @@ fills_more file t es left e d' t' t'' h l on may after = record {
 pub drafts_fault : (e : Entry) (d d' : Draft) (t t' : List Road) (f : FileFault) → Added e d t (Err f) d' t' → (g : DraftFault) × (f ≡ fault.Draft g)
 drafts_fault (place name) d d' t t' f (q, (_, _, err)) = let (g, _, is) = from_err q f err in (g, is)
 drafts_fault (road s e m) d d' t t' f (q, (_, err)) = let (g, _, is) = from_err q f err in (g, is)
-drafts_fault (remark text) d d' t t' f (no_fault, _, _) = let z : ◌≡◌ {A = ℕ} 0 1 = cc in absurd (omega arith)
-drafts_fault finish d d' t t' f (no_fault, _, _) = let z : ◌≡◌ {A = ℕ} 0 1 = cc in absurd (omega arith)
+drafts_fault (remark text) d d' t t' f (ok, _, _) = absurd (err_not_ok ok)
+drafts_fault finish d d' t t' f (ok, _, _) = absurd (err_not_ok ok)

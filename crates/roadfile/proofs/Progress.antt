@@ -1,18 +1,21 @@
 -- How far a loading has come, and what each way out of it shows.
-use Rattle.std.proofs.Common.{◌≡◌, ℕ, ◌+◌, ◌-◌, ◌<◌, Bool, true, false, List, [], ◌∷◌, ◌++◌, map, length, take, drop, Some, Ok, Err, sym, refl, ap, ◌∙◌, subst, arith, length-append, length-drop}
+use Rattle.std.proofs.Common.{◌≡◌, ℕ, ◌+◌, ◌-◌, ◌<◌, true, false, List, [], ◌∷◌, ◌++◌, map, length, take, drop, Some, Ok, Err, Result, sym, refl, ap, ◌∙◌, subst, inr, arith, length-append, length-drop}
 use Rattle.std.specs.List.{flat_map}
+use Rattle.std.proofs.lemmas.Bool.{false≢true, true≢false}
 use Rattle.std.proofs.lemmas.List.{take_at, drop_at}
 use Rattle.roads.specs.Drafts.{Closed}
 use Rattle.roads.specs.Tables.{turned, opened}
 use Rattle.roads.specs.declared.draft.Draft.{Draft}
+use Rattle.roads.specs.declared.fault.DraftFault.TheVariants.{UnknownPlace, PlacesFull, RoadsFull, NoPlace, ForeignTable}
 use Rattle.roads.specs.declared.network.Network.{Network}
 use Rattle.roads.specs.declared.road.Road.{Road}
 use Rattle.roadfile.specs.declared.fault.FileFault.{FileFault}
+use Rattle.roadfile.specs.declared.fault.FileFault.TheVariants as fault
 use Rattle.roadfile.specs.declared.fault.LoadFault.{LoadFault}
 use Rattle.roadfile.specs.declared.reader.Reader.{Reader}
 use Rattle.roadfile.specs.declared.reader.Item.{Item}
 use Rattle.roadfile.specs.Format.{Entry, place, road, remark, finish, entry, header, written, ends}
-use Rattle.roadfile.specs.Loading.{roads_of, count_of, Added, Fills, Stops, place_of, Broken, Whole}
+use Rattle.roadfile.specs.Loading.{roads_of, count_of, Added, AddedAt, Fills, Stops, NotClosed, ClosedAt, place_of, Broken, Whole, Loaded}
 use Rattle.roadfile.specs.Reading.{Leads, left_of, offset_of, Opened, Handed, Ended}
 use Rattle.roadfile.proofs.Records.{leads_length}
 use Rattle.roadfile.proofs.Filling.{Drafted, adds, refuses, drafts_fault, fills_more}
@@ -28,15 +31,12 @@ pub record Sofar (file : List ℕ) (t : List Road) (s : Reader) (d : Draft) (t' 
   pub going : s.done ≡ false → left ≡ left_of s
   pub done : s.done ≡ true → (left ≡ written finish ++ left_of s) × (at ≡ length file - length left)
 
-true_not_false : {b : Bool} → b ≡ true → b ≡ false → ⊥
-true_not_false p q = let z : ◌≡◌ {A = ℕ} 0 1 = cc in omega arith
-
 -- only the end record ends
 ends_is : (e : Entry) → ends e ≡ true → e ≡ finish
 ends_is finish h = refl
-ends_is (place n) h = absurd (true_not_false h refl)
-ends_is (road s e m) h = absurd (true_not_false h refl)
-ends_is (remark x) h = absurd (true_not_false h refl)
+ends_is (place n) h = absurd (false≢true h)
+ends_is (road s e m) h = absurd (false≢true h)
+ends_is (remark x) h = absurd (false≢true h)
 
 -- every record that is handed out leaves less
 pub shrinks : (s s' : Reader) (i : Item) → Handed s (Ok (Some i)) s' → length (left_of s') < length (left_of s)
@@ -55,7 +55,7 @@ module _ (file : List ℕ) (t : List Road) where
     drafted = record { places = p; roads = r; serves = record { long = omega arith; named = λ i x h. absurd (omega arith) }; same = refl; table = refl };
     size = size;
     going = λ _. refl;
-    done = λ h. absurd (true_not_false h not_done);
+    done = λ h. absurd (true≢false (sym h ∙ not_done));
   }
 
   module _ (s : Reader) (d : Draft) (t' : List Road) (at : ℕ) (h : Sofar file t s d t' at) where
@@ -78,7 +78,7 @@ module _ (file : List ℕ) (t : List Road) where
           drafted = after;
           size = size ∙ h.size;
           going = λ _. ap (drop (length (written e))) (h.going on) ∙ sym rest;
-          done = λ is. absurd (true_not_false is (stop ∙ ends_not));
+          done = λ is. absurd (true≢false (sym is ∙ stop ∙ ends_not));
         } in
         let halt : ends e ≡ true → Sofar file t s' d' t'' i.offset = λ ends_so.
         let is = ends_is e ends_so in
@@ -89,22 +89,22 @@ module _ (file : List ℕ) (t : List Road) where
           fills = subst (λ x. Fills file t h.before h.left x) (sym et) h.fills;
           drafted = subst (λ x. Drafted t x h.before t'') (sym ed) (subst (λ x. Drafted t d h.before x) (sym et) h.drafted);
           size = size ∙ h.size;
-          going = λ is_not. absurd (true_not_false (stop ∙ ends_so) is_not);
+          going = λ is_not. absurd (true≢false (sym (stop ∙ ends_so) ∙ is_not));
           done = λ _. (h.going on ∙ l.bytes ∙ ap (λ x. written e ++ x) (sym rest) ∙ ap (λ x. written x ++ left_of s') is, at_i ∙ offset_is on);
         } in
         elim (ends e) as (λ b. (ends e ≡ b → Sofar file t s' d' t'' i.offset)) [ true ↦ halt | false ↦ go ] refl
 
-    pub refused : (i : Item) (s' : Reader) (d' : Draft) (t'' : List Road) (f : FileFault) → Handed s (Ok (Some i)) s' → Added (entry i.record) d t' (Err f) d' t'' → Broken file t f i.offset t''
-    refused i s' d' t'' f (on, l, at_i, rest, size, stop) a =
+    pub refused : (i : Item) (s' : Reader) (d' : Draft) (t'' : List Road) (f : LoadFault) → Handed s (Ok (Some i)) s' → AddedAt i.offset (entry i.record) d t' (Err f) d' t'' → Broken file t f.fault f.offset t''
+    refused i s' d' t'' f (on, l, at_i, rest, size, stop) (a, at_f) =
         let e = entry i.record in
-        let (why, same) = refuses t e h.before d d' t' t'' h.left f h.drafted (leads_here e on l) a in
-        let (g, is) = drafts_fault e d d' t' t'' f a in
+        let (why, same) = refuses t e h.before d d' t' t'' h.left f.fault h.drafted (leads_here e on l) a in
+        let (g, is) = drafts_fault e d d' t' t'' f.fault a in
         record {
           before = h.before;
           left = h.left;
           fills = subst (λ x. Fills file t h.before h.left x) (sym same) h.fills;
           stops = why;
-          told = at_i ∙ offset_is on ∙ ap (λ x. place_of x file h.left) (sym is);
+          told = at_f ∙ at_i ∙ offset_is on ∙ ap (λ x. place_of x file h.left) (sym is);
         }
 
     -- bytes behind the end record
@@ -154,3 +154,32 @@ module _ (file : List ℕ) (t : List Road) where
       places = places ∙ h.drafted.places;
       roads = roads ∙ h.drafted.roads;
     }
+
+    -- a draft that was filled from a file can only lack a place
+    no_place : (f : FileFault) → NotClosed d t' f → (f ≡ fault.Draft NoPlace) × (d.places ≡ 0)
+    no_place (fault.Draft NoPlace) (_, none) = (refl, none)
+    no_place (fault.Draft ForeignTable) r = absurd (r h.drafted.serves)
+    no_place (fault.Draft UnknownPlace) r = absurd r
+    no_place (fault.Draft PlacesFull) r = absurd r
+    no_place (fault.Draft RoadsFull) r = absurd r
+    no_place fault.Letters r = absurd r
+    no_place fault.Version r = absurd r
+    no_place fault.Cut r = absurd r
+    no_place fault.Form r = absurd r
+    no_place fault.Extra r = absurd r
+
+    -- a closing that was refused
+    unclosed : (f : LoadFault) (t'' : List Road) → s.done ≡ true → left_of s ≡ [] → ClosedAt at d t' (Err f) t'' → Broken file t f.fault f.offset t''
+    unclosed f t'' off none (why, at_f, same) =
+        let (is, places) = no_place f.fault why in
+        record {
+          before = h.before;
+          left = h.left;
+          fills = subst (λ x. Fills file t h.before h.left x) (sym same) h.fills;
+          stops = subst (Stops (length t) h.before h.left) (sym is) (left_finish off none, sym h.drafted.places ∙ places);
+          told = at_f ∙ (h.done off).1 ∙ ap (λ x. place_of x file h.left) (sym is);
+        }
+
+    pub closes : (r : Result Network LoadFault) (t'' : List Road) → s.done ≡ true → left_of s ≡ [] → ClosedAt at d t' r t'' → Loaded file t r t''
+    closes (Ok n) t'' off none c = whole n t'' off none c
+    closes (Err f) t'' off none c = inr (unclosed f t'' off none c)

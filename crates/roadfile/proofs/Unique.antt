@@ -1,48 +1,34 @@
 -- No record's written form begins another's.
-use Rattle.std.proofs.Common.{◌≡◌, ℕ, ◌/◌, ◌%◌, ◌^◌, ◌<◌, List, [], ◌∷◌, ◌++◌, length, take, drop, sym, refl, ap, ◌∙◌, arith}
+use Rattle.std.proofs.Common.{◌≡◌, ℕ, ◌^◌, ◌<◌, List, [], ◌∷◌, ◌++◌, length, take, drop, sym, refl, ap, ◌∙◌, w16, w32, arith}
 use Rattle.std.specs.List.{flat_map, AllByRecursion}
+use Rattle.std.specs.Int.{from_le_bytes}
 use Rattle.std.proofs.lemmas.List.{take_at, drop_at}
+use Rattle.std.proofs.lemmas.Nat.{from_le_bytes-to_le_bytes_2, from_le_bytes-to_le_bytes_4}
 use Rattle.roadfile.specs.Format.{Entry, place, road, remark, finish, little, kind, body, written, Proper}
+use Rattle.roadfile.proofs.Numbers.{spelled}
 
--- a number is known by its lowest byte and the rest
-byte_more : (m n : ℕ) → m % 256 ≡ n % 256 → m / 256 ≡ n / 256 → m ≡ n
-byte_more m n low high = omega arith
+-- a number of 16 bits, and one of 32, is known by its bytes
+two_same : (m n : ℕ) → m < 2 ^ 16 → n < 2 ^ 16 → little 2 m ≡ little 2 n → m ≡ n
+two_same m n hm hn e = sym (from_le_bytes-to_le_bytes_2 m hm) ∙ ap (from_le_bytes w16) e ∙ from_le_bytes-to_le_bytes_2 n hn
 
-one_byte : (m n : ℕ) → m < 256 → n < 256 → m % 256 ≡ n % 256 → m ≡ n
-one_byte m n hm hn e = omega arith
-
--- a number of 32 bits is known by its four bytes
-little_same : (m n : ℕ) → m < 2 ^ 32 → n < 2 ^ 32 → m % 256 ≡ n % 256 → m / 256 % 256 ≡ n / 256 % 256 → m / 256 / 256 % 256 ≡ n / 256 / 256 % 256 → m / 256 / 256 / 256 % 256 ≡ n / 256 / 256 / 256 % 256 → m ≡ n
-little_same m n hm hn a b c d =
-    let m₃ : m / 256 / 256 / 256 < 256 = omega arith in
-    let n₃ : n / 256 / 256 / 256 < 256 = omega arith in
-    let top : m / 256 / 256 / 256 ≡ n / 256 / 256 / 256 = one_byte _ _ m₃ n₃ d in
-    byte_more m n a (byte_more (m / 256) (n / 256) b (byte_more (m / 256 / 256) (n / 256 / 256) c top))
+four_same : (m n : ℕ) → m < 2 ^ 32 → n < 2 ^ 32 → little 4 m ≡ little 4 n → m ≡ n
+four_same m n hm hn e =
+    sym (from_le_bytes-to_le_bytes_4 m hm) ∙ ap (from_le_bytes w32) (sym (spelled m) ∙ e ∙ spelled n) ∙ from_le_bytes-to_le_bytes_4 n hn
 
 marks_same : (ms ns : List ℕ) → length ms ≡ length ns → AllByRecursion (λ m. m < 2 ^ 32) ms → AllByRecursion (λ m. m < 2 ^ 32) ns → flat_map (little 4) ms ≡ flat_map (little 4) ns → ms ≡ ns
 marks_same [] [] l p q e = refl
 marks_same [] (n ∷ ns) l p q e = absurd (omega arith)
 marks_same (m ∷ ms) [] l p q e = absurd (omega arith)
 marks_same (m ∷ ms) (n ∷ ns) l (pm, p) (qn, q) e =
-    let a : m % 256 ≡ n % 256 = cc in
-    let b : m / 256 % 256 ≡ n / 256 % 256 = cc in
-    let c : m / 256 / 256 % 256 ≡ n / 256 / 256 % 256 = cc in
-    let d : m / 256 / 256 / 256 % 256 ≡ n / 256 / 256 / 256 % 256 = cc in
-    let rest : flat_map (little 4) ms ≡ flat_map (little 4) ns = cc in
-    let one = little_same m n pm qn a b c d in
-    let more = marks_same ms ns (omega arith) p q rest in
+    let one = four_same m n pm qn (ap (take 4) e) in
+    let more = marks_same ms ns (omega arith) p q (ap (drop 4) e) in
     ap (λ x. x ∷ ms) one ∙ ap (λ xs. n ∷ xs) more
 
 road_same : (s e s' e' : ℕ) (ms ms' : List ℕ) → Proper (road s e ms) → Proper (road s' e' ms') → body (road s e ms) ≡ body (road s' e' ms') → road s e ms ≡ road s' e' ms'
 road_same s e s' e' ms ms' (hs, he, four, p) (hs', he', four', p') same =
-    let a : s % 256 ≡ s' % 256 = cc in
-    let b : s / 256 % 256 ≡ s' / 256 % 256 = cc in
-    let c : e % 256 ≡ e' % 256 = cc in
-    let d : e / 256 % 256 ≡ e' / 256 % 256 = cc in
-    let rest : flat_map (little 4) ms ≡ flat_map (little 4) ms' = cc in
-    let starts : s ≡ s' = omega (arith, hs, hs', a, b) in
-    let finishes : e ≡ e' = omega (arith, he, he', c, d) in
-    let marks = marks_same ms ms' (four ∙ sym four') p p' rest in
+    let starts = two_same s s' hs hs' (ap (take 2) same) in
+    let finishes = two_same e e' he he' (ap (λ l. take 2 (drop 2 l)) same) in
+    let marks = marks_same ms ms' (four ∙ sym four') p p' (ap (drop 4) same) in
     cc
 
 -- the kind and the body of a proper record say which it is

@@ -1,5 +1,6 @@
 pub mod Faults
 pub mod Format
+pub mod Kinds
 pub mod Loading
 pub mod Outcome
 pub mod Reading

@@ -1,7 +1,7 @@
 -- What a loading makes of a road file.
 use Rattle.std.specs.Prelude.{◌≡◌, ℕ, suc, ◌+◌, ◌-◌, ◌<◌, ◌≤◌, true, false, ◌⊎◌, List, [], ◌∷◌, ◌++◌, length, take, drop, Ok, Err, Result, slice_index_or}
 use Rattle.std.specs.List.{flat_map, AllByRecursion}
-use Rattle.roads.specs.Drafts.{Placed, Laid}
+use Rattle.roads.specs.Drafts.{Placed, Laid, ClosingRefused, Closed}
 use Rattle.roads.specs.declared.draft.Draft.{Draft}
 use Rattle.roads.specs.declared.fault.DraftFault.{DraftFault}
 use Rattle.roads.specs.declared.fault.DraftFault.TheVariants.{UnknownPlace, PlacesFull, RoadsFull, NoPlace, ForeignTable}
@@ -62,6 +62,25 @@ Added (place name) d t r d' t' = (q : Result ℕ DraftFault) × (Placed d q d' �
 Added (road start end marks) d t r d' t' = (q : Result ℕ DraftFault) × (Laid d t start end marks q d' t' × (r ≡ carried q))
 Added (remark text) d t r d' t' = (r ≡ Ok tt) × (d' ≡ d) × (t' ≡ t)
 Added finish d t r d' t' = (r ≡ Ok tt) × (d' ≡ d) × (t' ≡ t)
+
+-- the same, of an entry that stands at this offset
+abbrev pub AddedAt : ℕ → Entry → Draft → List Road → Result (Unit {0}) LoadFault → Draft → List Road → Type 0
+AddedAt at e d t (Ok _) d' t' = Added e d t (Ok tt) d' t'
+AddedAt at e d t (Err f) d' t' = Added e d t (Err f.fault) d' t' × (f.offset ≡ at)
+
+-- which refusal a closing has where the draft is filled from a file: the draft's, which stands unaltered inside the file's
+abbrev pub NotClosed : Draft → List Road → FileFault → Type 0
+NotClosed d t fault.Letters = ⊥
+NotClosed d t fault.Version = ⊥
+NotClosed d t fault.Cut = ⊥
+NotClosed d t fault.Form = ⊥
+NotClosed d t fault.Extra = ⊥
+NotClosed d t (fault.Draft f) = ClosingRefused d t f
+
+-- closing the draft d over the table t, where the end record stands at this offset, answers r and leaves the table t'
+abbrev pub ClosedAt : ℕ → Draft → List Road → Result Network LoadFault → List Road → Type 0
+ClosedAt at d t (Ok n) t' = Closed d t (Ok n) t'
+ClosedAt at d t (Err f) t' = NotClosed d t f.fault × (f.offset ≡ at) × (t' ≡ t)
 
 -- the file is its header, the records es, all proper and none of them the end record, one after the other, and then left;
 -- each of them could be added to the draft that those before it had filled;

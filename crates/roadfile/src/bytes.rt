@@ -1,19 +1,21 @@
 // Little-endian numbers in a run of bytes.
-ghost use Rattle.std.specs.Prelude.{◌≡◌, ◌+◌, ◌≤◌, ◌++◌, length, drop};
+ghost use Rattle.std.specs.Prelude.{◌≡◌, ◌≤◌, ◌++◌, length};
 ghost use Rattle.roadfile.specs.Format.{little};
 
-// The 16-bit number that stands at `at`.
-pub(crate) fn u16_at(bytes: &[u8], at: usize) -> u16
-    requires { at + 2 ≤ length bytes.now }
-    ensures { drop at bytes.now ≡ little 2 result ++ drop (at + 2) bytes.now }
+// The 16-bit number with which the bytes begin, and the bytes behind it.
+pub(crate) fn split_u16(bytes: &[u8]) -> (u16, &[u8])
+    requires { 2 ≤ length bytes.now }
+    ensures { bytes.now ≡ little 2 result.0 ++ result.1.now }
 {
-    u16::from_le_bytes([bytes[at], bytes[at + 1]])
+    let (number, rest) = bytes.split_first_chunk().unwrap();
+    (u16::from_le_bytes(*number), rest)
 }
 
-// The 32-bit number that stands at `at`.
-pub(crate) fn u32_at(bytes: &[u8], at: usize) -> u32
-    requires { at + 4 ≤ length bytes.now }
-    ensures { drop at bytes.now ≡ little 4 result ++ drop (at + 4) bytes.now }
+// The 32-bit number with which the bytes begin, and the bytes behind it.
+pub(crate) fn split_u32(bytes: &[u8]) -> (u32, &[u8])
+    requires { 4 ≤ length bytes.now }
+    ensures { bytes.now ≡ little 4 result.0 ++ result.1.now }
 {
-    u32::from_le_bytes([bytes[at], bytes[at + 1], bytes[at + 2], bytes[at + 3]])
+    let (number, rest) = bytes.split_first_chunk().unwrap();
+    (u32::from_le_bytes(*number), rest)
 }

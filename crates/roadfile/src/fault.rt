@@ -5,7 +5,7 @@ ghost use Rattle.roadfile.specs.declared.fault.FileFault.TheVariants.{Draft};
 use roads::DraftFault;
 
 // Why a road file is refused.
-#[derive(Clone, Copy)]
+#[derive(Clone, Copy, Debug, PartialEq, Eq)]
 pub enum FileFault {
     // The file has fewer than five bytes, or does not begin with the letters CRN.
     Letters,
@@ -22,14 +22,14 @@ pub enum FileFault {
 }
 
 // Who found a fault: the reader of the file, or the draft that the file fills.
-#[derive(Clone, Copy)]
+#[derive(Clone, Copy, Debug, PartialEq, Eq)]
 pub enum Layer {
     File,
     Draft,
 }
 
 // A fault and where in the file it was found.
-#[derive(Clone, Copy)]
+#[derive(Clone, Copy, Debug, PartialEq, Eq)]
 pub struct LoadFault {
     pub fault: FileFault,
     pub offset: u64,
@@ -44,7 +44,19 @@ impl From<DraftFault> for FileFault {
 }
 
 impl FileFault {
+    // The fault with where in the file it was found.
+    pub(crate) fn at(self, offset: u64) -> LoadFault
+        ensures fault { result.fault ≡ self }
+        ensures offset { result.offset ≡ offset }
+    {
+        LoadFault {
+            fault: self,
+            offset,
+        }
+    }
+
     // The number by which the refusal is known.
+    // Kept as a match: a fault of the draft has the number that it has there.
     pub fn number(&self) -> u32
         ensures { result ≡ file_number self.now }
     {

@@ -3,6 +3,7 @@
 
 mod bytes;
 mod fault;
+mod kind;
 mod laws;
 mod loading;
 mod reader;

@@ -1,7 +1,7 @@
 ghost use Rattle.roadfile.specs.Format.{entry};
-ghost use Rattle.roadfile.specs.Loading.{Added, Loaded};
+ghost use Rattle.roadfile.specs.Loading.{Added, AddedAt, ClosedAt, Loaded};
 
-use crate::{FileFault, LoadFault, Reader, Record};
+use crate::{FileFault, Item, LoadFault, Reader, Record};
 use roads::{Draft, Network, Road};
 
 // Adds to the draft what the record says.
@@ -20,6 +20,23 @@ fn add(said: &Record, draft: &mut Draft, table: &mut [Road]) -> Result<(), FileF
     Ok(())
 }
 
+// Adds what the record at its offset says; a refusal tells the offset.
+fn add_item(item: &Item, draft: &mut Draft, table: &mut [Road]) -> Result<(), LoadFault>
+    ensures { AddedAt item.now.offset (entry item.now.record) draft.old table.old result draft.new table.new }
+{
+    let offset = item.offset;
+    add(&item.record, draft, table).map_err(|fault| fault.at(offset))
+}
+
+// Closes the draft of a file whose end record stands at this offset.
+fn close(draft: Draft, table: &mut [Road], offset: u64) -> Result<Network, LoadFault>
+    ensures { ClosedAt offset draft table.old result table.new }
+{
+    draft
+        .close(table)
+        .map_err(|unclosed| FileFault::from(unclosed.fault).at(offset))
+}
+
 // Fills a new draft from a road file, over the caller's road table, and closes it.
 pub fn load(file: &[u8], table: &mut [Road]) -> Result<Network, LoadFault>
     ensures { Loaded file.now table.old result table.new }
@@ -29,16 +46,8 @@ pub fn load(file: &[u8], table: &mut [Road]) -> Result<Network, LoadFault>
     let mut offset = 0;
     while let Some(item) = reader.next()? {
         offset = item.offset;
-        if let Err(fault) = add(&item.record, &mut draft, table) {
-            return Err(LoadFault { fault, offset });
-        }
+        add_item(&item, &mut draft, table)?;
     }
     reader.finish()?;
-    match draft.close(table) {
-        Ok(network) => Ok(network),
-        Err(unclosed) => Err(LoadFault {
-            fault: FileFault::from(unclosed.fault),
-            offset,
-        }),
-    }
+    close(draft, table, offset)
 }

@@ -1,13 +1,14 @@
-ghost use Rattle.std.specs.Prelude.{◌≡◌, ◌≤◌, length, take, Decides};
-ghost use Rattle.roadfile.specs.Format.{letters};
+ghost use Rattle.std.specs.Prelude.{◌≡◌};
 ghost use Rattle.roadfile.specs.Reading.{Opened, Handed, Ended, offset_of};
 
-use crate::bytes::u16_at;
 use crate::record::first_record;
 use crate::{FileFault, LoadFault, Record};
 
+// The version of the format.
+const VERSION: u16 = 1;
+
 // A road file that is being read: the bytes whose records were not handed out yet, the size of the whole file, and whether no more will be handed out.
-#[derive(Drop)]
+#[derive(Debug, Drop)]
 pub struct Reader<'a> {
     left: &'a [u8],
     size: usize,
@@ -15,7 +16,7 @@ pub struct Reader<'a> {
 }
 
 // A record and where in the file it stands.
-#[derive(Clone, Copy)]
+#[derive(Clone, Copy, Debug, PartialEq, Eq)]
 pub struct Item<'a> {
     pub offset: u64,
     pub record: Record<'a>,
@@ -26,20 +27,14 @@ impl<'a> Reader<'a> {
     pub fn open(file: &'a [u8]) -> Result<Reader<'a>, LoadFault>
         ensures { Opened file.now result }
     {
-        if file.len() < 5 || !lettered(file) {
-            return Err(LoadFault {
-                fault: FileFault::Letters,
-                offset: 0,
-            });
-        }
-        if u16_at(file, 3) != 1 {
-            return Err(LoadFault {
-                fault: FileFault::Version,
-                offset: 3,
-            });
+        let [b'C', b'R', b'N', low, high, left @ ..] = file else {
+            return Err(FileFault::Letters.at(0));
+        };
+        if u16::from_le_bytes([*low, *high]) != VERSION {
+            return Err(FileFault::Version.at(3));
         }
         Ok(Reader {
-            left: &file[5..],
+            left,
             size: file.len(),
             done: false,
         })
@@ -54,17 +49,12 @@ impl<'a> Reader<'a> {
         }
         let left = self.left;
         let offset = self.offset();
-        match first_record(left) {
-            Ok(record) => {
-                self.left = &left[record.size()..];
-                self.done = record.is_end();
-                Ok(Some(Item { offset, record }))
-            }
-            Err(fault) => {
-                self.done = true;
-                Err(LoadFault { fault, offset })
-            }
-        }
+        // So it stays where no record begins.
+        self.done = true;
+        let record = first_record(left).map_err(|fault| fault.at(offset))?;
+        self.left = &left[record.size()..];
+        self.done = record.is_end();
+        Ok(Some(Item { offset, record }))
     }
 
     // After the end record: refuses the bytes that follow it.
@@ -72,12 +62,10 @@ impl<'a> Reader<'a> {
         ensures { Ended self.now result }
     {
         if self.left.is_empty() {
-            return Ok(());
+            Ok(())
+        } else {
+            Err(FileFault::Extra.at(self.offset()))
         }
-        Err(LoadFault {
-            fault: FileFault::Extra,
-            offset: self.offset(),
-        })
     }
 
     // Where in the file the bytes begin that were not handed out yet.
@@ -86,12 +74,4 @@ impl<'a> Reader<'a> {
     {
         self.size.saturating_sub(self.left.len()) as u64
     }
-}
-
-// Whether the file begins with the letters of a road file.
-fn lettered(file: &[u8]) -> bool
-    requires { 5 ≤ length file.now }
-    ensures { Decides result (take 3 file.now ≡ letters) }
-{
-    file[0] == b'C' && file[1] == b'R' && file[2] == b'N'
 }

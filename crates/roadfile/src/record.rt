@@ -1,12 +1,14 @@
 ghost use Rattle.std.specs.Prelude.{◌≡◌, ◌≤◌, ◌∷◌, length, Decides};
 ghost use Rattle.roadfile.specs.Format.{written, entry, ends, Proper, Allowed};
+ghost use Rattle.roadfile.specs.Kinds.{code_of};
 ghost use Rattle.roadfile.specs.Reading.{Begins};
 
 use crate::FileFault;
-use crate::bytes::{u16_at, u32_at};
+use crate::bytes::{split_u16, split_u32};
+use crate::kind::Kind;
 
 // What one record of a road file says. Names and remarks are parts of the file.
-#[derive(Clone, Copy)]
+#[derive(Clone, Copy, Debug, PartialEq, Eq)]
 pub enum Record<'a> {
     // A place, by its name.
     Place(&'a [u8]),
@@ -50,41 +52,31 @@ fn road_of(body: &[u8]) -> Record<'static>
     ensures proper { Proper (entry result) }
     ensures says { written (entry result) ≡ 2 ∷ 20 ∷ body.now }
 {
-    let start = u16_at(body, 0);
-    let end = u16_at(body, 2);
-    let marks = [
-        u32_at(body, 4),
-        u32_at(body, 8),
-        u32_at(body, 12),
-        u32_at(body, 16),
-    ];
-    Record::Road { start, end, marks }
-}
-
-// Whether records of this kind may have a body of this length.
-fn allowed(kind: u8, size: u8) -> bool
-    ensures { Decides result (Allowed kind size) }
-{
-    match kind {
-        0 => size == 0,
-        1 => size >= 1 && size <= 32,
-        2 => size == 20,
-        _ => kind == 3,
+    let (start, rest) = split_u16(body);
+    let (end, rest) = split_u16(rest);
+    let (first, rest) = split_u32(rest);
+    let (second, rest) = split_u32(rest);
+    let (third, rest) = split_u32(rest);
+    let (fourth, _) = split_u32(rest);
+    Record::Road {
+        start,
+        end,
+        marks: [first, second, third, fourth],
     }
 }
 
-// What a body says, of a record of an allowed kind and length.
-fn record_of(kind: u8, body: &[u8]) -> Record<'_>
-    requires allowed { Allowed kind (length body.now) }
+// What a body says, of a record of a kind that may have its length.
+fn record_of(kind: Kind, body: &[u8]) -> Record<'_>
+    requires allowed { Allowed (code_of kind) (length body.now) }
     requires body_len_bound { length body.now ≤ 255 }
     ensures proper { Proper (entry result) }
-    ensures says { written (entry result) ≡ kind ∷ length body.now ∷ body.now }
+    ensures says { written (entry result) ≡ code_of kind ∷ length body.now ∷ body.now }
 {
     match kind {
-        0 => Record::End,
-        1 => Record::Place(body),
-        2 => road_of(body),
-        _ => Record::Remark(body),
+        Kind::End => Record::End,
+        Kind::Place => Record::Place(body),
+        Kind::Road => road_of(body),
+        Kind::Remark => Record::Remark(body),
     }
 }
 
@@ -92,17 +84,13 @@ fn record_of(kind: u8, body: &[u8]) -> Record<'_>
 pub(crate) fn first_record(left: &[u8]) -> Result<Record<'_>, FileFault>
     ensures { Begins left.now result }
 {
-    if left.len() < 2 {
+    let [code, size, rest @ ..] = left else {
         return Err(FileFault::Cut);
-    }
-    let kind = left[0];
-    let size = left[1];
-    if !allowed(kind, size) {
+    };
+    let kind = Kind::try_from(*code)?;
+    if !kind.allows(*size) {
         return Err(FileFault::Form);
     }
-    let end = 2 + size as usize;
-    if left.len() < end {
-        return Err(FileFault::Cut);
-    }
-    Ok(record_of(kind, &left[2..end]))
+    let body = rest.get(..usize::from(*size)).ok_or(FileFault::Cut)?;
+    Ok(record_of(kind, body))
 }

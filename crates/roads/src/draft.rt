@@ -3,7 +3,7 @@ ghost use Rattle.std.specs.Prelude.{◌≤◌};
 pub mod calls;
 
 // A network in the making: how many places and roads it has so far. Its roads stand in the caller's road table.
-#[derive(Drop)]
+#[derive(Debug, PartialEq, Eq, Drop)]
 pub struct Draft {
     pub(crate) places: u32,
     pub(crate) roads: u32,

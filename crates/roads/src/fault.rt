@@ -2,18 +2,18 @@ ghost use Rattle.std.specs.Prelude.{◌≡◌};
 ghost use Rattle.roads.specs.Faults.{draft_number, network_number};
 
 // Why a draft refuses a call.
-#[derive(Clone, Copy)]
+#[derive(Clone, Copy, Debug, PartialEq, Eq)]
 pub enum DraftFault {
     // The road names a place that has not been added.
-    UnknownPlace,
+    UnknownPlace = 6,
     // As many places exist as a network may have.
-    PlacesFull,
+    PlacesFull = 7,
     // As many roads exist as a network may have, or the road table has no entry left.
-    RoadsFull,
+    RoadsFull = 8,
     // A network needs a place.
-    NoPlace,
+    NoPlace = 9,
     // The road table is not the one that the draft filled.
-    ForeignTable,
+    ForeignTable = 22,
 }
 
 impl DraftFault {
@@ -21,25 +21,19 @@ impl DraftFault {
     pub fn number(&self) -> u32
         ensures { result ≡ draft_number self.now }
     {
-        match self {
-            DraftFault::UnknownPlace => 6,
-            DraftFault::PlacesFull => 7,
-            DraftFault::RoadsFull => 8,
-            DraftFault::NoPlace => 9,
-            DraftFault::ForeignTable => 22,
-        }
+        *self as u32
     }
 }
 
 // Why a network refuses to alter a road.
-#[derive(Clone, Copy)]
+#[derive(Clone, Copy, Debug, PartialEq, Eq)]
 pub enum NetworkFault {
     // A road has four marks.
-    NoSuchMark,
+    NoSuchMark = 10,
     // The network has no road of that number.
-    NoSuchRoad,
+    NoSuchRoad = 11,
     // The road table is not one of this network's.
-    ForeignTable,
+    ForeignTable = 22,
 }
 
 impl NetworkFault {
@@ -47,10 +41,6 @@ impl NetworkFault {
     pub fn number(&self) -> u32
         ensures { result ≡ network_number self.now }
     {
-        match self {
-            NetworkFault::NoSuchMark => 10,
-            NetworkFault::NoSuchRoad => 11,
-            NetworkFault::ForeignTable => 22,
-        }
+        *self as u32
     }
 }

@@ -3,7 +3,7 @@ ghost use Rattle.std.specs.Prelude.{◌<◌, ◌≤◌};
 pub mod calls;
 
 // A closed draft: its places and roads are fixed, and only marks and openness of its roads, in the caller's table, may change.
-#[derive(Clone, Copy)]
+#[derive(Clone, Copy, Debug, PartialEq, Eq)]
 pub struct Network {
     pub(crate) places: u32,
     pub(crate) roads: u32,

@@ -2,7 +2,7 @@ ghost use Rattle.std.specs.Prelude.{◌≡◌, ◌≤◌, length, Decides};
 ghost use Rattle.roads.specs.Tables.{Within, Serves, opened};
 
 // One road: the places where it starts and ends, its four marks, and whether it may be used.
-#[derive(Clone, Copy)]
+#[derive(Clone, Copy, Debug, PartialEq, Eq)]
 pub struct Road {
     pub start: u32,
     pub end: u32,
@@ -23,16 +23,10 @@ impl Road {
 pub fn serves(table: &[Road], places: u32, roads: u32) -> bool
     ensures { Decides result (Serves places roads table.now) }
 {
-    let count = roads as usize;
-    if table.len() < count {
+    let Some(counted) = table.get(..roads as usize) else {
         return false;
-    }
-    for i in 0..count {
-        if !table[i].within(places) {
-            return false;
-        }
-    }
-    true
+    };
+    counted.iter().all(|road| road.within(places))
 }
 
 // Opens the first `count` roads of the table.
@@ -40,7 +34,7 @@ pub(crate) fn open_all(table: &mut [Road], count: usize)
     requires { count ≤ length table.old }
     ensures { table.new ≡ opened count table.old }
 {
-    for i in 0..count {
-        table[i].open = true;
+    for road in &mut table[..count] {
+        road.open = true;
     }
 }

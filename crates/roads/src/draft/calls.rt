@@ -1,5 +1,6 @@
-ghost use Rattle.std.specs.Prelude.{◌≡◌, ◌+◌};
-ghost use Rattle.roads.specs.Drafts.{Placed, Laid, Closed};
+ghost use Rattle.std.specs.Prelude.{◌≡◌, ◌+◌, ◌<◌, MatchResult};
+ghost use Rattle.roads.specs.Drafts.{Placed, Serving, Laid, ClosingRefused, Closed};
+ghost use Rattle.roads.specs.declared.fault.DraftFault.TheVariants.{ForeignTable};
 
 use crate::road::open_all;
 use crate::{Draft, DraftFault, Network, Road, serves};
@@ -10,7 +11,7 @@ const PLACES: u32 = 2048;
 const ROADS: u32 = 16384;
 
 // A closing that was refused: the draft as it was, and why.
-#[derive(Drop)]
+#[derive(Debug, PartialEq, Eq, Drop)]
 pub struct Unclosed {
     pub draft: Draft,
     pub fault: DraftFault,
@@ -40,6 +41,28 @@ impl Draft {
         Ok(number)
     }
 
+    // Refuses a road table that does not serve the draft.
+    fn check_table(&self, table: &[Road]) -> Result<(), DraftFault>
+        ensures { MatchResult result (λ _. Serving self.now table.now) (λ fault. (fault ≡ ForeignTable) × ¬ Serving self.now table.now) }
+    {
+        if serves(table, self.places, self.roads) {
+            Ok(())
+        } else {
+            Err(DraftFault::ForeignTable)
+        }
+    }
+
+    // Refuses a closing that the draft is not ready for.
+    fn check_closing(&self, table: &[Road]) -> Result<(), DraftFault>
+        ensures { MatchResult result (λ _. Serving self.now table.now × (0 < self.now.places)) (λ fault. ClosingRefused self.now table.now fault) }
+    {
+        self.check_table(table)?;
+        if self.places == 0 {
+            return Err(DraftFault::NoPlace);
+        }
+        Ok(())
+    }
+
     // Adds an open road, into the table's next entry, and answers its number.
     pub fn road(
         &mut self,
@@ -50,10 +73,14 @@ impl Draft {
     ) -> Result<u32, DraftFault>
         ensures { Laid self.old table.old start end marks result self.new table.new }
     {
-        if !serves(table, self.places, self.roads) {
-            return Err(DraftFault::ForeignTable);
-        }
-        if start >= self.places || end >= self.places {
+        self.check_table(table)?;
+        let road = Road {
+            start,
+            end,
+            marks,
+            open: true,
+        };
+        if !road.within(self.places) {
             return Err(DraftFault::UnknownPlace);
         }
         let number = self.roads;
@@ -61,12 +88,7 @@ impl Draft {
         if number >= ROADS || at >= table.len() {
             return Err(DraftFault::RoadsFull);
         }
-        table[at] = Road {
-            start,
-            end,
-            marks,
-            open: true,
-        };
+        table[at] = road;
         self.roads = number + 1;
         Ok(number)
     }
@@ -75,17 +97,8 @@ impl Draft {
     pub fn close(self, table: &mut [Road]) -> Result<Network, Unclosed>
         ensures { Closed self table.old result table.new }
     {
-        if !serves(table, self.places, self.roads) {
-            return Err(Unclosed {
-                draft: self,
-                fault: DraftFault::ForeignTable,
-            });
-        }
-        if self.places == 0 {
-            return Err(Unclosed {
-                draft: self,
-                fault: DraftFault::NoPlace,
-            });
+        if let Err(fault) = self.check_closing(table) {
+            return Err(Unclosed { draft: self, fault });
         }
         open_all(table, self.roads as usize);
         Ok(Network {

@@ -1,5 +1,4 @@
-ghost use Rattle.std.specs.Prelude.{◌≡◌, ◌<◌, true, false, length, slice_index_or, slice_set};
-ghost use Rattle.roads.specs.Tables.{turned, marked};
+ghost use Rattle.std.specs.Prelude.{◌≡◌, true, false};
 ghost use Rattle.roads.specs.Networks.{ReMarked, Turned, Found};
 
 use crate::{Network, NetworkFault, Road, serves};
@@ -33,7 +32,7 @@ impl Network {
         if mark >= 4 {
             return Err(NetworkFault::NoSuchMark);
         }
-        set_mark(table, at, mark as usize, value);
+        table[at].marks[mark as usize] = value;
         Ok(())
     }
 
@@ -41,17 +40,22 @@ impl Network {
     pub fn shut(&self, table: &mut [Road], road: u32) -> Result<(), NetworkFault>
         ensures { Turned self.now table.old road false result table.new }
     {
-        let at = self.find(table, road)?;
-        set_open(table, at, false);
-        Ok(())
+        self.turn(table, road, false)
     }
 
     // Reopens one road; on a road that is open it changes nothing.
     pub fn reopen(&self, table: &mut [Road], road: u32) -> Result<(), NetworkFault>
         ensures { Turned self.now table.old road true result table.new }
     {
+        self.turn(table, road, true)
+    }
+
+    // Opens or shuts one road.
+    fn turn(&self, table: &mut [Road], road: u32, open: bool) -> Result<(), NetworkFault>
+        ensures { Turned self.now table.old road «open» result table.new }
+    {
         let at = self.find(table, road)?;
-        set_open(table, at, true);
+        table[at].open = open;
         Ok(())
     }
 
@@ -67,21 +71,4 @@ impl Network {
         }
         Ok(road as usize)
     }
-}
-
-// Sets mark `mark` of the road at `at`.
-fn set_mark(table: &mut [Road], at: usize, mark: usize, value: u32)
-    requires at_in_bounds { at < length table.old }
-    requires mark_bound { mark < 4 }
-    ensures { (d : Road) → table.new ≡ slice_set table.old at (marked mark value (slice_index_or table.old at d)) }
-{
-    table[at].marks[mark] = value;
-}
-
-// Opens or shuts the road at `at`.
-fn set_open(table: &mut [Road], at: usize, open: bool)
-    requires { at < length table.old }
-    ensures { (d : Road) → table.new ≡ slice_set table.old at (turned «open» (slice_index_or table.old at d)) }
-{
-    table[at].open = open;
 }

@@ -2,7 +2,7 @@ use Rattle.std.proofs.Common.{◌≡◌, ◌-◌, length, Ok, ap, ◌∙◌, sub
 use Rattle.roadfile.specs.Format.{entry, written}
 use Rattle.roadfile.specs.Reading.{Handed, left_of}
 use Rattle.roadfile.proofs.Records.{leads_length}
-use Rattle.filecases.proofs.reading.Reading.drain.Goals as goal
+use Rattle.filecases.proofs.reading.Tally.drain.Goals as goal
 
 -- a record that was handed out is taken from what is left
 pub loop-item-smaller : goal.loop-item-smaller

@@ -1,0 +1,8 @@
+use Rattle.std.proofs.Common.{rules}
+use Rattle.roadfile.proofs.Numbers.{little_four}
+use Rattle.roadfile.proofs.bytes.split_u32.Goals as goal
+
+pub returns : goal.returns
+returns c =
+    let (first, behind, _) = rw c.unwrap.ensures at c.split_first_chunk.ensures.cases in
+    little_four c.args.bytes.now _ _ c.from_le_bytes.result first behind c.requires (λ i. search (rules, c.type_inv.bytes i)) c.from_le_bytes.ensures
