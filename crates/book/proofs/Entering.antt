@@ -19,7 +19,7 @@ use Rattle.book.specs.declared.added.Added.{Added}
 use Rattle.book.specs.declared.book.Book.{Book}
 use Rattle.book.specs.declared.fault.PlannerFault.{PlannerFault}
 use Rattle.book.specs.Faults.{told}
-use Rattle.book.specs.Reading.{Serving, sheet_of}
+use Rattle.book.specs.Reading.{Serving, count_of, sheet_of}
 use Rattle.book.specs.Sweeping.{Entered, Filled, OneMore, Served, SweepRefused, Sweeping, swept_sheet}
 use Rattle.rows.proofs.Checks.{unread}
 use Rattle.book.proofs.Kept.{ends_within, sheet_kept}
@@ -44,7 +44,7 @@ stands_more a b n roads origin t xs k r low h = record {
 lawful_more : {V W : Type 0} (a : Meaning V) (b : Meaning W) (places roads : ℕ) (t xs : List (Row V W)) (reach k : ℕ) (r : Row V W) → k ≤ length t → LawfulRow a b places roads t reach k r → LawfulRow a b places roads (t ++ xs) reach k r
 lawful_more a b places roads t xs reach k r low h = record { fits = h.fits; made = made_more roads t xs k r.roads r.source low h.made }
 
-module _ {A B V W : Type 0} (a : Meaning V) (b : Meaning W) (k : Book A B) (roads : List Road) (rows rows' : List (Row V W)) (origin : ℕ) (served : Served a b k roads rows) (inside : origin < k.network.places) (few : k.count < 64) where
+module _ {A B V W : Type 0} (a : Meaning V) (b : Meaning W) (k : Book A B) (roads : List Road) (rows rows' : List (Row V W)) (origin : ℕ) (served : Served a b k roads rows) (inside : origin < k.network.places) (few : count_of k < 64) where
   -- the rows in use
   front : List (Row V W)
   front = take k.used rows
@@ -121,21 +121,17 @@ module _ {A B V W : Type 0} (a : Meaning V) (b : Meaning W) (k : Book A B) (road
     }
 
     -- and all sheets are
-    sound_again : Sound a b k.network.places k.network.roads (take k.count k.sheets ++ s ∷ []) (k.used + count) rows'
+    sound_again : Sound a b k.network.places k.network.roads (k.sheets.items ++ s ∷ []) (k.used + count) rows'
     unfolding front
     sound_again =
-        let old = take k.count k.sheets in
-        let many : length old ≡ k.count = length-take-le k.count k.sheets (omega (arith, k.long)) in
+        let old = k.sheets.items in
         record {
           long = omega (arith, ap length f.table, length-append front (f.free ++ f.rest), length-append f.free f.rest, front_long, room);
           each = λ i d lt. ⊎_elim
               (λ low.
-              let here : get_or old i d ≡ get_or k.sheets i d = get_or-take k.count k.sheets i d (omega arith) in
-              let ends = ends_within k.sheets k.count i d k.following (omega (arith, k.long)) (omega arith) in
+              let ends = ends_within old i d k.following low in
               subst (SheetSound a b k.network.places k.network.roads rows') (sym (get_or_append_left old (s ∷ []) d i low))
-              (sheet_kept rows rows' k.used (before f) served.by_rows.long a b k.network.places k.network.roads (get_or old i d)
-              (subst (λ x. x.start + x.len ≤ k.used) (sym here) (omega (arith, ends, k.used_is)))
-              (served.by_rows.each i d low)))
+              (sheet_kept rows rows' k.used (before f) served.by_rows.long a b k.network.places k.network.roads (get_or old i d) (omega (arith, ends, k.used_is)) (served.by_rows.each i d low)))
               (λ high.
               let last : length old ≡ i = omega (arith, lt, length_push old s) in
               subst (SheetSound a b k.network.places k.network.roads rows') (sym (get_or_push old s d i last)) new_sound)
@@ -143,21 +139,17 @@ module _ {A B V W : Type 0} (a : Meaning V) (b : Meaning W) (k : Book A B) (road
         }
 
     module _ (k' : Book A B) (one : OneMore k k' s) where
-      low : k.count < length k.sheets
-      low = omega (arith, k.long, few)
-
       -- the new sheet stands behind the others
-      sheet_is : sheet_of k' k.count ≡ s
-      sheet_is = ap (λ l. get_or l k.count unread) one.sheets ∙ get_or-set_same k.sheets k.count s unread low
+      sheet_is : sheet_of k' (count_of k) ≡ s
+      sheet_is = ap (λ l. get_or l (count_of k) unread) one.sheets ∙ get_or_push k.sheets.items s unread (count_of k) refl
 
       serving : Serving a b k' rows'
       serving =
-          let list : take k'.count k'.sheets ≡ take k.count k.sheets ++ s ∷ [] = ap (λ n. take n k'.sheets) one.count ∙ ap (take (k.count + 1)) one.sheets ∙ take_more_set k.sheets k.count s low in
-          subst (λ n. Sound a b n.places n.roads (take k'.count k'.sheets) k'.used rows') (sym one.network)
-          (subst (λ l. Sound a b k.network.places k.network.roads l k'.used rows') (sym list)
-          (subst (λ u. Sound a b k.network.places k.network.roads (take k.count k.sheets ++ s ∷ []) u rows') (sym one.used) sound_again))
+          subst (λ n. Sound a b n.places n.roads k'.sheets.items k'.used rows') (sym one.network)
+          (subst (λ l. Sound a b k.network.places k.network.roads l k'.used rows') (sym one.sheets)
+          (subst (λ u. Sound a b k.network.places k.network.roads (k.sheets.items ++ s ∷ []) u rows') (sym one.used) sound_again))
 
-      pub entered : Entered a b k k' roads rows rows' origin (record { sheet = k.count; rows = count })
+      pub entered : Entered a b k k' roads rows rows' origin (record { sheet = count_of k; rows = count })
       entered = record {
         served = served;
         place = inside;

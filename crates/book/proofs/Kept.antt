@@ -1,6 +1,6 @@
 -- The sheets of a book stay sound where rows are written behind those in use.
 use Rattle.std.proofs.Common.{◌≡◌, ℕ, ◌+◌, ◌<◌, ◌≤◌, List, [], ◌∷◌, length, get_or, take, drop, sym, ap, ◌∙◌, arith}
-use Rattle.std.proofs.lemmas.List.{get_or-take, take-append-drop, take-take, take_more}
+use Rattle.std.proofs.lemmas.List.{get_or-take, take-append-drop, take_more}
 use Rattle.criteria.specs.Meaning.{Meaning}
 use Rattle.rows.specs.declared.row.Row.{Row}
 use Rattle.rows.specs.declared.sheet.Sheet.{Sheet}
@@ -23,12 +23,9 @@ module _ {V W : Type 0} (t t' : List (Row V W)) (n : ℕ) (same : take n t' ≡ 
         record { fits = old.fits; made = made_kept roads t t' k r.roads r.source (λ i p lt. row_kept i p (omega arith)) old.made };
   }
 
--- each of the first sheets ends within the rows of all of them
-pub ends_within : (sheets : List Sheet) (n i : ℕ) (d : Sheet) → Following n sheets → n ≤ length sheets → i < n → (get_or sheets i d).start + (get_or sheets i d).len ≤ total (take n sheets)
-ends_within sheets n i d follows long lt =
-    let front = take (i + 1) (take n sheets) in
-    let back = drop (i + 1) (take n sheets) in
-    let split = ap total (sym (take-append-drop (i + 1) (take n sheets))) ∙ total-++ front back in
-    let same : total front ≡ total (take (i + 1) sheets) = ap total (take-take (i + 1) n sheets (omega arith)) in
-    let one = ap total (take_more sheets i d (omega arith)) ∙ total-++ (take i sheets) (get_or sheets i d ∷ []) in
+-- each sheet ends within the rows of all of them
+pub ends_within : (sheets : List Sheet) (i : ℕ) (d : Sheet) → Following sheets → i < length sheets → (get_or sheets i d).start + (get_or sheets i d).len ≤ total sheets
+ends_within sheets i d follows lt =
+    let split = ap total (sym (take-append-drop (i + 1) sheets)) ∙ total-++ (take (i + 1) sheets) (drop (i + 1) sheets) in
+    let one = ap total (take_more sheets i d lt) ∙ total-++ (take i sheets) (get_or sheets i d ∷ []) in
     omega (arith, follows i d lt)

@@ -1,5 +1,5 @@
 -- What the calls that read a sheet of a book answer.
-use Rattle.std.specs.Prelude.{◌≡◌, ℕ, ◌-◌, ◌<◌, ◌≤◌, List, length, take, Ok, Err, Result, slice_index_or}
+use Rattle.std.specs.Prelude.{◌≡◌, ℕ, ◌-◌, ◌<◌, ◌≤◌, List, length, Ok, Err, Result, slice_index_or}
 use Rattle.criteria.specs.Meaning.{Meaning}
 use Rattle.rows.specs.declared.row.Row.{Row}
 use Rattle.rows.specs.declared.sheet.Sheet.{Sheet}
@@ -9,19 +9,23 @@ use Rattle.book.specs.declared.book.Book.{Book}
 use Rattle.book.specs.declared.fault.PlannerFault.{PlannerFault}
 use Rattle.book.specs.declared.fault.PlannerFault.TheVariants.{NoSuchPlace, NoSuchSheet, NoSuchRow, SheetsFull, RowsFull, NoTrip, ForeignTable}
 
+-- how many sheets the book has
+abbrev pub count_of : {A B : Type 0} → Book A B → ℕ
+count_of k = length k.sheets.items
+
 -- sheet s of the book; one without rows where there is none
 abbrev pub sheet_of : {A B : Type 0} → Book A B → ℕ → Sheet
-sheet_of k s = slice_index_or k.sheets s (record { origin = 0; reach = 0; start = 0; len = 0 })
+sheet_of k s = slice_index_or k.sheets.items s (record { origin = 0; reach = 0; start = 0; len = 0 })
 
 module _ {A B V W : Type 0} where
   -- the row table is sound for the book's sheets
   abbrev pub Serving : Meaning V → Meaning W → Book A B → List (Row V W) → Type 0
-  Serving a b k rows = Sound a b k.network.places k.network.roads (take k.count k.sheets) k.used rows
+  Serving a b k rows = Sound a b k.network.places k.network.roads k.sheets.items k.used rows
 
   -- the table serves, and sheet s and place p exist
   pub record Readable (a : Meaning V) (b : Meaning W) (k : Book A B) (rows : List (Row V W)) (s p : ℕ) : Type 0 where
     pub serving : Serving a b k rows
-    pub sheet : s < k.count
+    pub sheet : s < count_of k
     pub place : p < k.network.places
 
   -- the rows of sheet s that end at place p
@@ -31,17 +35,17 @@ module _ {A B V W : Type 0} where
   -- which refusal comes for place p of sheet s: the first that applies of a foreign table, no such sheet, and no such place
   abbrev pub PlaceRefused : Meaning V → Meaning W → Book A B → List (Row V W) → ℕ → ℕ → PlannerFault → Type 0
   PlaceRefused a b k rows s p ForeignTable = Serving a b k rows → ⊥
-  PlaceRefused a b k rows s p NoSuchSheet = Serving a b k rows × (k.count ≤ s)
-  PlaceRefused a b k rows s p NoSuchPlace = Serving a b k rows × (s < k.count) × (k.network.places ≤ p)
+  PlaceRefused a b k rows s p NoSuchSheet = Serving a b k rows × (count_of k ≤ s)
+  PlaceRefused a b k rows s p NoSuchPlace = Serving a b k rows × (s < count_of k) × (k.network.places ≤ p)
   PlaceRefused a b k rows s p NoSuchRow = ⊥
   PlaceRefused a b k rows s p SheetsFull = ⊥
   PlaceRefused a b k rows s p RowsFull = ⊥
   PlaceRefused a b k rows s p NoTrip = ⊥
 
-  -- whether place p of sheet s can be read
-  abbrev pub Checked : Meaning V → Meaning W → Book A B → List (Row V W) → ℕ → ℕ → Result (Unit {0}) PlannerFault → Type 0
-  Checked a b k rows s p (Ok _) = Readable a b k rows s p
-  Checked a b k rows s p (Err f) = PlaceRefused a b k rows s p f
+  -- place p of sheet s can be read, and x is that sheet
+  pub record Found (a : Meaning V) (b : Meaning W) (k : Book A B) (rows : List (Row V W)) (s p : ℕ) (x : Sheet) : Type 0 where
+    pub readable : Readable a b k rows s p
+    pub is : x ≡ sheet_of k s
 
   -- how many rows of sheet s end at place p
   abbrev pub Counted : Meaning V → Meaning W → Book A B → List (Row V W) → ℕ → ℕ → Result ℕ PlannerFault → Type 0

@@ -1,5 +1,5 @@
 -- What a sweep of a book answers, and what it leaves.
-use Rattle.std.specs.Prelude.{◌≡◌, ℕ, ◌+◌, ◌-◌, ◌<◌, ◌≤◌, min, List, ◌++◌, map, length, take, Ok, Err, IfOk, Result, slice_set}
+use Rattle.std.specs.Prelude.{◌≡◌, ℕ, ◌+◌, ◌-◌, ◌<◌, ◌≤◌, min, List, [], ◌∷◌, ◌++◌, map, length, take, Ok, Err, IfOk, Result}
 use Rattle.criteria.specs.Meaning.{Meaning}
 use Rattle.roads.specs.Networks as network
 use Rattle.roads.specs.declared.road.Road.{Road}
@@ -13,7 +13,7 @@ use Rattle.book.specs.declared.added.Added.{Added}
 use Rattle.book.specs.declared.book.Book.{Book}
 use Rattle.book.specs.declared.fault.PlannerFault.{PlannerFault}
 use Rattle.book.specs.declared.fault.PlannerFault.TheVariants.{NoSuchPlace, NoSuchSheet, NoSuchRow, SheetsFull, RowsFull, NoTrip, ForeignTable}
-use Rattle.book.specs.Reading.{Serving, rows_there}
+use Rattle.book.specs.Reading.{Serving, count_of, rows_there}
 
 -- the sheet of a sweep from an origin that has so many rows: its reach is the number of places less one, and its rows follow those in use
 abbrev pub swept_sheet : {A B : Type 0} → Book A B → ℕ → ℕ → Sheet
@@ -21,7 +21,7 @@ swept_sheet k origin count = record { origin = origin; reach = k.network.places 
 
 -- a sheet that may follow the others of a book: there is room for it, it starts where they end, and it keeps the bounds of a book
 pub record MayFollow {A B : Type 0} (k : Book A B) (s : Sheet) : Type 0 where
-  pub room : k.count < 64
+  pub room : count_of k < 64
   pub start : s.start ≡ k.used
   pub few : k.used + s.len ≤ 65536
   pub origin : s.origin < k.network.places
@@ -32,8 +32,7 @@ pub record OneMore {A B : Type 0} (k k' : Book A B) (s : Sheet) : Type 0 where
   pub network : k'.network ≡ k.network
   pub first : k'.first ≡ k.first
   pub second : k'.second ≡ k.second
-  pub sheets : k'.sheets ≡ slice_set k.sheets k.count s
-  pub count : k'.count ≡ k.count + 1
+  pub sheets : k'.sheets.items ≡ k.sheets.items ++ s ∷ []
   pub used : k'.used ≡ k.used + s.len
 
 module _ {A B V W : Type 0} where
@@ -61,10 +60,10 @@ module _ {A B V W : Type 0} (a : Meaning V) (b : Meaning W) where
     -- no refusal applied
     pub served : Served k roads rows
     pub place : origin < k.network.places
-    pub room : k.count < 64
+    pub room : count_of k < 64
     pub fits : added.rows ≤ unused k rows
     -- the new sheet has the next number and as many rows as the sweep has; the book is else as it was
-    pub sheet : added.sheet ≡ k.count
+    pub sheet : added.sheet ≡ count_of k
     pub number : Rows a b k.network.places (plan_of a b k.network roads origin) added.rows
     pub book : OneMore k k' (swept_sheet k origin added.rows)
     -- the rows in use are as they were
@@ -80,11 +79,11 @@ module _ {A B V W : Type 0} (a : Meaning V) (b : Meaning W) where
   abbrev pub SweepRefused : Book A B → List Road → List (Row V W) → ℕ → PlannerFault → Type 0
   SweepRefused k roads rows origin ForeignTable = Served k roads rows → ⊥
   SweepRefused k roads rows origin NoSuchPlace = Served k roads rows × (k.network.places ≤ origin)
-  SweepRefused k roads rows origin SheetsFull = Served k roads rows × (origin < k.network.places) × (64 ≤ k.count)
+  SweepRefused k roads rows origin SheetsFull = Served k roads rows × (origin < k.network.places) × (64 ≤ count_of k)
   SweepRefused k roads rows origin RowsFull =
       Served k roads rows ×
       (origin < k.network.places) ×
-      (k.count < 64) ×
+      (count_of k < 64) ×
       Crowded a b k.network roads origin (unused k rows) ×
       ((n : ℕ) → Rows a b k.network.places (plan_of a b k.network roads origin) n → unused k rows < n)
   SweepRefused k roads rows origin NoSuchSheet = ⊥

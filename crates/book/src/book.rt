@@ -1,6 +1,7 @@
-ghost use Rattle.std.specs.Prelude.{◌≡◌, ◌≤◌, length, take};
+ghost use Rattle.std.specs.Prelude.{◌≡◌, ◌≤◌, length};
 ghost use Rattle.book.specs.Sheets.{total, Following, Rooted, Reaching};
 
+use arrayvec::ArrayVec;
 use roads::Network;
 use rows::Sheet;
 
@@ -14,14 +15,12 @@ pub struct Book<A, B> {
     pub(crate) network: Network,
     pub(crate) first: A,
     pub(crate) second: B,
-    pub(crate) sheets: [Sheet; 64],
-    pub(crate) count: u32,
+    pub(crate) sheets: ArrayVec<Sheet, 64>,
     pub(crate) used: u32,
-    ghost long: { length sheets ≡ 64 },
-    ghost count_fits: { count ≤ 64 },
+    ghost sheets_fit: { length sheets.items ≤ 64 },
     ghost used_fits: { used ≤ 65536 },
-    ghost used_is: { used ≡ total (take count sheets) },
-    ghost following: { Following count sheets },
-    ghost rooted: { Rooted network.places count sheets },
-    ghost reaching: { Reaching count sheets },
+    ghost used_is: { used ≡ total sheets.items },
+    ghost following: { Following sheets.items },
+    ghost rooted: { Rooted network.places sheets.items },
+    ghost reaching: { Reaching sheets.items },
 }

@@ -4,22 +4,22 @@ ghost use Rattle.book.specs.Faults.{planner_number, told};
 use sweep::SweepFault;
 
 // Why a book refuses a call.
-#[derive(Clone, Copy)]
+#[derive(Clone, Copy, Debug, PartialEq, Eq)]
 pub enum PlannerFault {
     // The network has no place of that number.
-    NoSuchPlace,
+    NoSuchPlace = 12,
     // The book has no sheet of that number.
-    NoSuchSheet,
+    NoSuchSheet = 13,
     // The sheet has no row of that index at the place.
-    NoSuchRow,
+    NoSuchRow = 14,
     // As many sheets exist as a book may have.
-    SheetsFull,
+    SheetsFull = 17,
     // The row table has too few unused rows.
-    RowsFull,
+    RowsFull = 18,
     // The sheet has no trip to the place.
-    NoTrip,
+    NoTrip = 20,
     // The row table is not the one that the book filled.
-    ForeignTable,
+    ForeignTable = 22,
 }
 
 impl PlannerFault {
@@ -27,15 +27,7 @@ impl PlannerFault {
     pub fn number(&self) -> u32
         ensures { result ≡ planner_number self.now }
     {
-        match self {
-            PlannerFault::NoSuchPlace => 12,
-            PlannerFault::NoSuchSheet => 13,
-            PlannerFault::NoSuchRow => 14,
-            PlannerFault::SheetsFull => 17,
-            PlannerFault::RowsFull => 18,
-            PlannerFault::NoTrip => 20,
-            PlannerFault::ForeignTable => 22,
-        }
+        *self as u32
     }
 }
 

@@ -1,7 +1,7 @@
 ghost use Rattle.std.specs.Prelude.{◌≡◌, ◌+◌, ◌^◌, ◌<◌, min};
 
 // The rows of all trips of one plan: its origin, the most roads that a row of it has, and where its rows stand in the row table.
-#[derive(Clone, Copy, Debug, PartialEq, Eq)]
+#[derive(Clone, Copy, Debug, Default, PartialEq, Eq)]
 pub struct Sheet {
     pub origin: u32,
     pub reach: u32,

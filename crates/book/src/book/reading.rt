@@ -1,9 +1,9 @@
 ghost use Rattle.std.specs.Prelude.{Decides, MatchResult};
-ghost use Rattle.book.specs.Reading.{Serving, Checked, Counted, RowThere, RowRefused, FirstThere, LastThere, BestRefused};
+ghost use Rattle.book.specs.Reading.{Serving, Found, PlaceRefused, Counted, RowThere, RowRefused, FirstThere, LastThere, BestRefused};
 
 use crate::{Book, PlannerFault};
 use criteria::Criterion;
-use rows::{Row, count_at, last_at, row_at, sound};
+use rows::{Row, Sheet, count_at, last_at, row_at, sound};
 
 impl<A: Criterion, B: Criterion> Book<A, B> {
     // How many rows of the sheet end at the place.
@@ -15,8 +15,8 @@ impl<A: Criterion, B: Criterion> Book<A, B> {
     ) -> Result<u32, PlannerFault>
         ensures { Counted (A.Criterion.meaning self.now.first) (B.Criterion.meaning self.now.second) self.now rows.now sheet place result }
     {
-        self.check(rows, sheet, place)?;
-        Ok(count_at(rows, &self.sheets[sheet as usize], place))
+        let sheet = self.sheet_at(rows, sheet, place)?;
+        Ok(count_at(rows, sheet, place))
     }
 
     // The row of that index among those of the sheet that end at the place.
@@ -29,11 +29,8 @@ impl<A: Criterion, B: Criterion> Book<A, B> {
     ) -> Result<&'r Row<A::Value, B::Value>, PlannerFault>
         ensures { MatchResult result (λ x. RowThere (A.Criterion.meaning self.now.first) (B.Criterion.meaning self.now.second) self.now rows.now sheet place index x.now) (λ f. RowRefused (A.Criterion.meaning self.now.first) (B.Criterion.meaning self.now.second) self.now rows.now sheet place index f) }
     {
-        self.check(rows, sheet, place)?;
-        match row_at(rows, &self.sheets[sheet as usize], place, index) {
-            Some(row) => Ok(row),
-            None => Err(PlannerFault::NoSuchRow),
-        }
+        let sheet = self.sheet_at(rows, sheet, place)?;
+        row_at(rows, sheet, place, index).ok_or(PlannerFault::NoSuchRow)
     }
 
     // The first of the rows of the sheet that end at the place: the best by the first criterion.
@@ -45,11 +42,8 @@ impl<A: Criterion, B: Criterion> Book<A, B> {
     ) -> Result<&'r Row<A::Value, B::Value>, PlannerFault>
         ensures { MatchResult result (λ x. FirstThere (A.Criterion.meaning self.now.first) (B.Criterion.meaning self.now.second) self.now rows.now sheet place x.now) (λ f. BestRefused (A.Criterion.meaning self.now.first) (B.Criterion.meaning self.now.second) self.now rows.now sheet place f) }
     {
-        self.check(rows, sheet, place)?;
-        match row_at(rows, &self.sheets[sheet as usize], place, 0) {
-            Some(row) => Ok(row),
-            None => Err(PlannerFault::NoTrip),
-        }
+        let sheet = self.sheet_at(rows, sheet, place)?;
+        row_at(rows, sheet, place, 0).ok_or(PlannerFault::NoTrip)
     }
 
     // The last of the rows of the sheet that end at the place: the best by the second criterion.
@@ -61,32 +55,31 @@ impl<A: Criterion, B: Criterion> Book<A, B> {
     ) -> Result<&'r Row<A::Value, B::Value>, PlannerFault>
         ensures { MatchResult result (λ x. LastThere (A.Criterion.meaning self.now.first) (B.Criterion.meaning self.now.second) self.now rows.now sheet place x.now) (λ f. BestRefused (A.Criterion.meaning self.now.first) (B.Criterion.meaning self.now.second) self.now rows.now sheet place f) }
     {
-        self.check(rows, sheet, place)?;
-        match last_at(rows, &self.sheets[sheet as usize], place) {
-            Some(row) => Ok(row),
-            None => Err(PlannerFault::NoTrip),
-        }
+        let sheet = self.sheet_at(rows, sheet, place)?;
+        last_at(rows, sheet, place).ok_or(PlannerFault::NoTrip)
     }
 
-    // Refuses a table that does not serve, a sheet that the book has not, and a place that the network has not.
-    fn check(
+    // The sheet of that number, to be read at the place; refuses a table that does not serve, a sheet that the book has not, and a
+    // place that the network has not.
+    fn sheet_at(
         &self,
         rows: &[Row<A::Value, B::Value>],
         sheet: u32,
         place: u32,
-    ) -> Result<(), PlannerFault>
-        ensures { Checked (A.Criterion.meaning self.now.first) (B.Criterion.meaning self.now.second) self.now rows.now sheet place result }
+    ) -> Result<&Sheet, PlannerFault>
+        ensures { MatchResult result (λ x. Found (A.Criterion.meaning self.now.first) (B.Criterion.meaning self.now.second) self.now rows.now sheet place x.now) (λ f. PlaceRefused (A.Criterion.meaning self.now.first) (B.Criterion.meaning self.now.second) self.now rows.now sheet place f) }
     {
         if !self.is_sound(rows) {
             return Err(PlannerFault::ForeignTable);
         }
-        if sheet >= self.count {
-            return Err(PlannerFault::NoSuchSheet);
-        }
+        let found = self
+            .sheets
+            .get(sheet as usize)
+            .ok_or(PlannerFault::NoSuchSheet)?;
         if place >= self.network.places() {
             return Err(PlannerFault::NoSuchPlace);
         }
-        Ok(())
+        Ok(found)
     }
 
     // Whether the row table serves the book.
@@ -98,7 +91,7 @@ impl<A: Criterion, B: Criterion> Book<A, B> {
             &self.second,
             self.network.places(),
             self.network.roads(),
-            &self.sheets[..self.count as usize],
+            &self.sheets,
             self.used,
             rows,
         )

@@ -1,4 +1,5 @@
 ghost use Rattle.std.specs.Prelude.{◌<◌, ◌≤◌, length, Decides, MatchBool};
+ghost use Rattle.book.specs.Reading.{count_of};
 ghost use Rattle.book.specs.Sweeping.{Served, MayFollow, OneMore, Filled, Sweeping};
 
 use crate::{Added, Book, PlannerFault};
@@ -7,17 +8,15 @@ use roads::{Road, serves};
 use rows::{Row, Sheet};
 use sweep::{Frontier, SweepFault, sweep};
 
-// The most sheets that a book may have.
-const SHEETS: u32 = 64;
 // The most rows of a row table that are used.
 const ROWS: usize = 65536;
 
 impl<A, B> Book<A, B> {
     // Whether the book has as many sheets as it may have.
     fn is_full(&self) -> bool
-        ensures { MatchBool result (64 ≤ self.now.count) (self.now.count < 64) }
+        ensures { MatchBool result (64 ≤ count_of self.now) (count_of self.now < 64) }
     {
-        self.count >= SHEETS
+        self.sheets.is_full()
     }
 
     // Adds a sheet behind the others.
@@ -25,8 +24,7 @@ impl<A, B> Book<A, B> {
         requires { MayFollow self.old sheet }
         ensures { OneMore self.old self.new sheet }
     {
-        self.sheets[self.count as usize] = sheet;
-        self.count += 1;
+        self.sheets.push(sheet);
         self.used += sheet.len;
     }
 }
@@ -79,7 +77,7 @@ impl<A: Criterion, B: Criterion> Book<A, B> {
             return Err(PlannerFault::SheetsFull);
         }
         let len = self.fill(frontier, roads, rows, origin)?;
-        let sheet = self.count;
+        let sheet = self.sheets.len() as u32;
         self.enter(Sheet {
             origin,
             reach: places - 1,

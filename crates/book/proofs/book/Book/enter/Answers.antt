@@ -1,4 +1,5 @@
-use Rattle.std.proofs.Common.{◌<◌, ◌≤◌, length, ◌∙◌, arith, length-set}
+use Rattle.std.proofs.Common.{◌≡◌, ◌+◌, ◌<◌, ◌≤◌, ◌∙◌, sym, subst, arith}
+use Rattle.book.specs.Sheets.{total, Following, Rooted, Reaching}
 use Rattle.book.proofs.Sheets.{total_more, one_more, following_more}
 use Rattle.book.proofs.book.Book.enter.Goals as goal
 
@@ -6,13 +7,13 @@ pub invariant_of-self : goal.invariant_of-self
 invariant_of-self g c =
     let k = c.args.self.now in
     let s = c.args.sheet in
-    let low : k.count < length k.sheets = omega (arith, k.long, c.requires.room) in
+    let old = k.sheets.items in
+    let is = sym c.push.ensures.items in
     record {
-      long = length-set k.sheets k.count s ∙ k.long;
-      count_fits = omega (arith, c.requires.room);
+      sheets_fit = omega (arith, c.push.ensures.len, c.requires.room);
       used_fits = c.requires.few;
-      used_is = omega (arith, total_more k.sheets k.count s low, k.used_is);
-      following = following_more k.sheets k.count s low k.following (c.requires.start ∙ k.used_is);
-      rooted = one_more k.sheets k.count s low (λ _ x. x.origin < k.network.places) k.rooted c.requires.origin;
-      reaching = one_more k.sheets k.count s low (λ _ x. x.reach ≤ 1048576) k.reaching c.requires.reach;
+      used_is = omega (arith, subst (λ l. total l ≡ total old + s.len) is (total_more old s), k.used_is);
+      following = subst Following is (following_more old s k.following (c.requires.start ∙ k.used_is));
+      rooted = subst (Rooted k.network.places) is (one_more old s (λ _ x. x.origin < k.network.places) k.rooted c.requires.origin);
+      reaching = subst Reaching is (one_more old s (λ _ x. x.reach ≤ 1048576) k.reaching c.requires.reach);
     }
