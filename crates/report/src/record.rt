@@ -1,7 +1,7 @@
 ghost use Rattle.std.specs.Prelude.{◌≡◌, ◌≤◌, length};
 ghost use Rattle.report.specs.Record.{Says, Told};
 
-use crate::{Line, write_line};
+use lines::{Line, write_line};
 use roadfile::load;
 use roads::Road;
 
