@@ -1,2 +1,4 @@
+pub mod Faults
+pub mod FirstSheets
 pub mod Record
 pub mod Sheets

@@ -2,6 +2,8 @@
 #![tactic(auto)]
 
 mod record;
+mod refusal;
 
 pub use lines::{Line, write_line};
-pub use record::write_record;
+pub use record::{BLANK, ROADS, network_of, write_record};
+pub use refusal::Refusal;
