@@ -1,4 +1,3 @@
 pub mod Faults
-pub mod FirstSheets
 pub mod Record
 pub mod Sheets

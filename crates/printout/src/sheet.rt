@@ -1,7 +1,7 @@
 ghost use Rattle.std.specs.Prelude.{◌≡◌, ℕ, ◌+◌, ◌*◌, ◌<◌, ◌≤◌, ◌++◌, length};
 ghost use Rattle.lines.specs.Text.{text};
 ghost use Rattle.printout.specs.Record.{limit_of, by_load, place_text, places_text, row_text, rows_text, by_time};
-ghost use Rattle.printout.specs.FirstSheets.{Open, rows_at, pairs_at};
+ghost use Rattle.printout.specs.Sheets.{IsThere, rows_at, pairs_at};
 ghost use Rattle.trips.specs.Pages.{all_rows};
 ghost use Rattle.rows.specs.Places.{RowAt, pair_of};
 
@@ -23,7 +23,7 @@ pub struct FirstSheet<'b> {
 impl FirstSheet<'_> {
     // Appends the lines of every place.
     pub fn push_places(&self, output: &mut ArrayString<RECORD>, places: u32)
-        requires there { (p : ℕ) → p < places → Open self.now p }
+        requires there { (p : ℕ) → p < places → IsThere self.now p }
         requires room { length output.old.bytes + 48 * (places + all_rows by_time by_load (pairs_at self.now) places) ≤ 147456 }
         ensures { output.new.bytes ≡ output.old.bytes ++ places_text (pairs_at self.now) places }
     {
@@ -34,7 +34,7 @@ impl FirstSheet<'_> {
 
     // Appends the lines of the place: how many rows it has, and each of them.
     fn push_place(&self, output: &mut ArrayString<RECORD>, place: u32)
-        requires there { Open self.now place }
+        requires there { IsThere self.now place }
         requires room { length output.old.bytes + 48 * (1 + length (pairs_at self.now place)) ≤ 147456 }
         ensures near { length output.new.bytes ≤ length output.old.bytes + 48 * (1 + length (pairs_at self.now place)) }
         ensures written { output.new.bytes ≡ output.old.bytes ++ place_text place (pairs_at self.now place) }
@@ -50,7 +50,7 @@ impl FirstSheet<'_> {
 
     // Appends the line of the row of that index at the place.
     fn push_row(&self, output: &mut ArrayString<RECORD>, place: u32, index: u32)
-        requires there { Open self.now place }
+        requires there { IsThere self.now place }
         requires index { index < length (rows_at self.now place) }
         requires room { length output.old.bytes + 48 ≤ 147456 }
         ensures near { length output.new.bytes ≤ length output.old.bytes + 48 }

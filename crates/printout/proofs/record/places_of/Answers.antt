@@ -1,4 +1,4 @@
-use Rattle.std.proofs.Common.{ℕ, List, replicate, Ok, Err, refl, sym, subst, inl, inr}
+use Rattle.std.proofs.Common.{ℕ, List, replicate, Ok, Err, refl, inl, inr}
 use Rattle.lines.specs.Text.{text}
 use Rattle.roads.specs.declared.road.Road.{Road}
 use Rattle.report.specs.Reading.{NetworkOf, refusal_line}
@@ -18,7 +18,7 @@ told file after (Fault f) (short, loaded) = inr (short, record { after = after; 
 pub returns-in_err-network : goal.returns-in_err-network
 returns-in_err-network c =
     let r = c.in_err-network.field-0.0 in
-    subst (Says c.args.file.now) (sym (fault_told _ (File r) c.from_residual.ensures.1)) (told c.args.file.now c.network_of.new.table r c.in_err-network.ensures)
+    rw (fault_told _ (File r) c.from_residual.ensures.1) (told c.args.file.now c.network_of.new.table r c.in_err-network.ensures)
 
 pub swept-requires : goal.swept-requires
 swept-requires c = serving c.args.file.now (replicate 1024 blank) c.in_ok-network.network c.network_of.new.table c.in_ok-network.ensures.1

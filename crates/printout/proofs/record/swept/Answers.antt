@@ -1,10 +1,8 @@
-use Rattle.std.proofs.Common.{◌≡◌, ◌≤◌, ◌++◌, length, replicate, sym, ap, ◌∙◌, subst, inl, inr, arith}
+use Rattle.std.proofs.Common.{◌≡◌, ◌≤◌, length, replicate, ap, ◌∙◌, inl, inr, arith}
 use lib.ListN.{length-replicate}
-use Rattle.criteria.specs.Limit.{limit_meaning}
-use Rattle.criteria.specs.Sum.{sum_meaning}
 use Rattle.trips.specs.Efficient.{UniqueRows}
 use Rattle.trips.specs.Pages.{all_rows}
-use Rattle.printout.specs.Record.{CrowdedOut, Listed, by_load, places_text, by_time}
+use Rattle.printout.specs.Record.{by_load, by_time}
 use Rattle.printout.specs.Sheets.{pairs_listed}
 use Rattle.printout.proofs.Sheets.{New, crowded_out, few, listed}
 use Rattle.printout.proofs.Told.{fault_told}
@@ -25,7 +23,7 @@ new c = record {
 
 -- a plan has one number of rows by the record's criteria
 unique : (c : After-open-book) → UniqueRows by_time by_load
-unique c = subst (λ j. UniqueRows by_time (limit_meaning j)) c.in_ok-load.ensures.1 (subst (λ i. UniqueRows (sum_meaning i) (limit_meaning c.in_ok-load.load.column.index)) c.in_ok-time.ensures.1 c.rows_are_counted.ensures.unique)
+unique c = rw (c.in_ok-time.ensures.1, c.in_ok-load.ensures.1) at c.rows_are_counted.ensures.unique
 
 pub push_places-requires-clause-room : goal.push_places-requires-clause-room
 push_places-requires-clause-room c =
@@ -34,7 +32,7 @@ push_places-requires-clause-room c =
     let k' = c.sweep.new.self in
     let rows' = c.sweep.new.rows in
     let rows = replicate 1024 c.unused-rows.result in
-    let room : all_rows by_time by_load (pairs_listed k' rows') c.places.result ≤ 1024 = subst (λ m. all_rows by_time by_load (pairs_listed k' rows') m ≤ 1024) (sym c.places.ensures) (few n c.args.roads.now c.open-book.result rows (new o) k' rows' c.in_ok-sweep.field-0 c.in_ok-sweep.ensures (unique o)) in
+    let room : all_rows by_time by_load (pairs_listed k' rows') c.places.result ≤ 1024 = rw c.places.ensures (few n c.args.roads.now c.open-book.result rows (new o) k' rows' c.in_ok-sweep.field-0 c.in_ok-sweep.ensures (unique o)) in
     let empty : length c.new-output.result.bytes ≡ 0 = ap length c.new-output.ensures in
     omega (arith, c.places.ensures, n.places_fit)
 
@@ -44,7 +42,7 @@ returns-in_err-sweep c =
     let o = (goal.at.returns-in_err-sweep c).After-open-book in
     let f = c.in_err-sweep.field-0.0 in
     let out = crowded_out n c.args.roads.now c.open-book.result (replicate 1024 c.unused-rows.result) (new o) c.requires f c.in_err-sweep.ensures.0 in
-    inr (subst (CrowdedOut n c.args.roads.now) (sym (fault_told _ (Planner f) c.from_residual-in_err-sweep.ensures.1)) out)
+    inr (rw (fault_told _ (Planner f) c.from_residual-in_err-sweep.ensures.1) out)
 
 pub returns : goal.returns
 returns c =
@@ -52,8 +50,4 @@ returns c =
     let o = (goal.at.returns c).After-open-book in
     let k' = c.sweep.new.self in
     let rows' = c.sweep.new.rows in
-    let lines =
-    c.push_places.ensures ∙
-    ap (λ l. l ++ places_text (pairs_listed k' rows') c.places.result) c.new-output.ensures ∙
-    ap (places_text (pairs_listed k' rows')) c.places.ensures in
-    inl (subst (Listed n c.args.roads.now) (sym lines) (listed n c.args.roads.now c.open-book.result (replicate 1024 c.unused-rows.result) (new o) k' rows' c.in_ok-sweep.field-0 c.in_ok-sweep.ensures (unique o)))
+    inl (rw (c.push_places.ensures, c.new-output.ensures, c.places.ensures) (listed n c.args.roads.now c.open-book.result (replicate 1024 c.unused-rows.result) (new o) k' rows' c.in_ok-sweep.field-0 c.in_ok-sweep.ensures (unique o)))

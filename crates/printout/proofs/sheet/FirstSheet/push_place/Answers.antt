@@ -1,7 +1,7 @@
 use Rattle.std.proofs.Common.{◌++◌, ap, ◌∙◌, arith}
 use Rattle.rows.specs.Places.{pair_of}
 use Rattle.rows.proofs.Filter.{row_exists}
-use Rattle.printout.specs.FirstSheets.{rows_at}
+use Rattle.printout.specs.Sheets.{rows_at}
 use Rattle.printout.specs.Record.{row_text}
 use Rattle.printout.proofs.Texts.{row_more}
 use Rattle.printout.proofs.sheet.FirstSheet.push_place.Goals as goal

@@ -1,6 +1,6 @@
 use Rattle.std.proofs.Common.{◌≡◌, ◌+◌, ◌*◌, ◌≤◌, ◌++◌, length, take}
 use Rattle.printout.specs.Record.{rows_text}
-use Rattle.printout.specs.FirstSheets.{pairs_at}
+use Rattle.printout.specs.Sheets.{pairs_at}
 use Rattle.printout.proofs.sheet.FirstSheet.push_place.Given as goal
 
 -- the lines of the rows before index have been written

@@ -1,5 +1,5 @@
 use Rattle.std.proofs.Common.{arith}
-use Rattle.printout.specs.FirstSheets.{pairs_at}
+use Rattle.printout.specs.Sheets.{pairs_at}
 use Rattle.printout.proofs.Texts.{rows_below}
 use Rattle.printout.proofs.sheet.FirstSheet.push_places.Goals as goal
 

@@ -1,7 +1,7 @@
 use Rattle.std.proofs.Common.{◌≡◌, ◌+◌, ◌*◌, ◌≤◌, ◌++◌, length}
 use Rattle.trips.specs.Pages.{all_rows}
 use Rattle.printout.specs.Record.{by_load, places_text, by_time}
-use Rattle.printout.specs.FirstSheets.{pairs_at}
+use Rattle.printout.specs.Sheets.{pairs_at}
 use Rattle.printout.proofs.sheet.FirstSheet.push_places.Given as goal
 
 -- the lines of the places before this one have been written
