@@ -10,7 +10,7 @@ use report::Refusal;
 
 // Why a record has one line, which tells of a refusal.
 #[derive(Clone, Copy)]
-pub enum RecordFault {
+pub(crate) enum RecordFault {
     // There is no network for the road file.
     File(Refusal),
     // A criterion is refused.

@@ -14,15 +14,15 @@ use rows::Row;
 
 // The first sheet of a book.
 #[derive(Clone, Copy)]
-pub struct FirstSheet<'b> {
-    pub book: &'b Book<Sum, Limit>,
+pub(crate) struct FirstSheet<'b> {
+    pub(crate) book: &'b Book<Sum, Limit>,
     // the table that the book filled
-    pub rows: &'b [Row<SumValue, LimitValue>],
+    pub(crate) rows: &'b [Row<SumValue, LimitValue>],
 }
 
 impl FirstSheet<'_> {
     // Appends the lines of every place.
-    pub fn push_places(&self, output: &mut ArrayString<RECORD>, places: u32)
+    pub(crate) fn push_places(&self, output: &mut ArrayString<RECORD>, places: u32)
         requires there { (p : ℕ) → p < places → IsThere self.now p }
         requires room { length output.old.bytes + 48 * (places + all_rows by_time by_load (pairs_at self.now) places) ≤ 147456 }
         ensures { output.new.bytes ≡ output.old.bytes ++ places_text (pairs_at self.now) places }
@@ -78,7 +78,7 @@ fn limit(value: LimitValue) -> Option<u32>
 }
 
 // Appends the line.
-pub fn push_line(output: &mut ArrayString<RECORD>, line: Line)
+pub(crate) fn push_line(output: &mut ArrayString<RECORD>, line: Line)
     requires { length output.old.bytes + 48 ≤ 147456 }
     ensures near { length output.new.bytes ≤ length output.old.bytes + 48 }
     ensures written { output.new.bytes ≡ output.old.bytes ++ text line }
