@@ -1,17 +1,8 @@
-use Rattle.std.proofs.Common.{◌≡◌, ℕ, ◌+◌, ◌/◌, ◌%◌, ◌^◌, ◌<◌, ◌≤◌, [], ◌∷◌, ◌++◌, length, decimal, ap, ◌∙◌, mod-eq_of_lt, arith, lit<}
-use Rattle.std.proofs.lemmas.Fmt.{decimal_digit, decimal_step, length-decimal-le}
+use Rattle.std.proofs.Common.{◌≡◌, ℕ, ◌+◌, ◌/◌, ◌%◌, ◌^◌, ◌<◌, ◌≤◌, length, decimal, ap, ◌∙◌, arith, lit<}
+use Rattle.std.proofs.lemmas.Fmt.{decimal_step, length-decimal-le}
 use Rattle.std.proofs.lemmas.List.{length_push}
 
--- a number below ten is its last digit
-pub decimal_one : (n digit : ℕ) → n < 10 → digit ≡ 48 + n % 10 → decimal n ≡ digit ∷ []
-decimal_one n digit small last = decimal_digit n small ∙ rw (last, mod-eq_of_lt)
-
--- any other is its tenth, and then its last digit
-pub decimal_more : (n digit : ℕ) → 10 ≤ n → n < 2 ^ 64 → digit ≡ 48 + n % 10
-    → decimal n ≡ decimal (n / 10) ++ (digit ∷ [])
-decimal_more n digit large fits last = rw last (decimal_step n large fits)
-
--- so it has one digit more than its tenth
+-- a number above nine has one digit more than its tenth
 pub length_decimal_more : (n : ℕ) → 10 ≤ n → n < 2 ^ 64 → length (decimal n) ≡ length (decimal (n / 10)) + 1
 length_decimal_more n large fits = ap length (decimal_step n large fits) ∙ length_push (decimal (n / 10)) (48 + n % 10)
 

@@ -1,6 +1,6 @@
-// One line of the whole record of a road file, in 48 bytes.
+// One line of a report, as a text of at most 48 bytes, and the table that a text fills.
 #![tactic(auto)]
 
 mod line;
 
-pub use line::{Line, write_line};
+pub use line::{Line, fill, write_line};

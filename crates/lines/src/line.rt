@@ -1,10 +1,15 @@
-ghost use Rattle.std.specs.Prelude.{◌≡◌, ◌+◌, ◌-◌, ◌%◌, ◌<◌, ◌≤◌, [], ◌∷◌, ◌++◌, length, replicate, decimal};
+ghost use Rattle.std.specs.Prelude.{◌≡◌, ◌+◌, ◌-◌, ◌%◌, ◌≤◌, ◌++◌, length, replicate, codes, decimal};
+ghost use Rattle.arrayvec.specs.ArrayString.{array_string_len};
 ghost use Rattle.lines.specs.Text.{text};
 ghost use Rattle.lines.specs.Put.{Put};
 
+use arrayvec::ArrayString;
+
 // One line of a report.
-#[derive(Clone, Copy)]
+#[derive(Clone, Copy, Debug, PartialEq, Eq)]
 pub enum Line {
+    // loaded PLACES places ROADS roads
+    Loaded { places: u32, roads: u32 },
     // place PLACE rows ROWS
     Place { place: u32, rows: u32 },
     // TIME LIMIT, or TIME - where there is no limit
@@ -13,30 +18,74 @@ pub enum Line {
     Refused { number: u32, offset: u64 },
 }
 
-// Fills the table with zeros.
-fn clear(table: &mut [u8; 48])
-    ensures { table.new ≡ replicate 48 0 }
-{
-    *table = [0; 48];
+impl Line {
+    // The text of the line, line feed included.
+    #[tactic(auto, using(crate::proofs::Digits::length_decimal_32, crate::proofs::Digits::length_decimal_64))]
+    pub fn text(self) -> ArrayString<48>
+        ensures bytes { result.bytes ≡ text self }
+        ensures fits { length (text self) ≤ 48 }
+    {
+        match self {
+            Line::Loaded { places, roads } => pair(
+                "loaded ",
+                u64::from(places),
+                " places ",
+                u64::from(roads),
+                " roads\n",
+            ),
+            Line::Place { place, rows } => pair(
+                "place ",
+                u64::from(place),
+                " rows ",
+                u64::from(rows),
+                "\n",
+            ),
+            Line::Row {
+                time,
+                limit: Some(limit),
+            } => pair("", time, " ", u64::from(limit), "\n"),
+            Line::Row { time, limit: None } => without_limit(time),
+            Line::Refused { number, offset } => {
+                pair("refused ", u64::from(number), " at ", offset, "\n")
+            }
+        }
+    }
 }
 
-// Puts a byte at `at`; tells the index after it.
-fn put_byte(table: &mut [u8; 48], at: usize, byte: u8) -> usize
-    requires { at < 48 }
-    ensures { Put (byte ∷ []) at table.old table.new result }
+// Two numbers, with texts before, between and after them. Not by `write!`: it may answer an error, and a line always fits.
+fn pair(before: &str, first: u64, between: &str, second: u64, after: &str) -> ArrayString<48>
+    requires { length before.now + length (decimal first) + length between.now + length (decimal second) + length after.now ≤ 48 }
+    ensures { result.bytes ≡ before.now ++ decimal first ++ between.now ++ decimal second ++ after.now }
 {
-    table[at] = byte;
-    at + 1
+    let mut text = ArrayString::new();
+    text.push_str(before);
+    push_number(&mut text, first);
+    text.push_str(between);
+    push_number(&mut text, second);
+    text.push_str(after);
+    text
 }
 
-// Puts bytes at `at`; tells the index after them.
-fn put_text(table: &mut [u8; 48], at: usize, bytes: &[u8]) -> usize
-    requires { at + length bytes.now ≤ 48 }
-    ensures { Put bytes.now at table.old table.new result }
+// The text of a row that has no limit.
+#[tactic(auto, using(crate::proofs::Digits::length_decimal_64))]
+fn without_limit(time: u64) -> ArrayString<48>
+    ensures { result.bytes ≡ decimal time ++ codes " -\n" }
 {
-    let end = at + bytes.len();
-    table[at..end].copy_from_slice(bytes);
-    end
+    let mut text = ArrayString::new();
+    push_number(&mut text, time);
+    text.push_str(" -\n");
+    text
+}
+
+// Appends the decimal digits of `n`. By hand: `write!` may answer an error, and digits copied from a buffer are no plainer.
+fn push_number(text: &mut ArrayString<48>, n: u64)
+    requires { array_string_len text.old + length (decimal n) ≤ 48 }
+    ensures { text.new.bytes ≡ text.old.bytes ++ decimal n }
+{
+    if n >= 10 {
+        push_number(text, n / 10);
+    }
+    text.push(char::from(last_digit(n)));
 }
 
 // The last decimal digit of `n`, as a byte.
@@ -46,78 +95,24 @@ fn last_digit(n: u64) -> u8
     b'0' + (n % 10) as u8
 }
 
-// Puts the decimal digits of `n` at `at`; tells the index after them.
-fn put_number(table: &mut [u8; 48], at: usize, n: u64) -> usize
-    requires { at + length (decimal n) ≤ 48 }
-    ensures { Put (decimal n) at table.old table.new result }
+// Puts the text at the table's start; tells its length.
+fn put<const N: usize>(table: &mut [u8; N], text: &ArrayString<N>) -> usize
+    ensures put { Put text.now.bytes 0 table.old table.new result }
+    ensures fits { length text.now.bytes ≤ N }
 {
-    let last = if n < 10 {
-        at
-    } else {
-        put_number(table, at, n / 10)
-    };
-    put_byte(table, last, last_digit(n))
+    let size = text.len();
+    table[..size].copy_from_slice(text.as_bytes());
+    size
 }
 
-// Puts a number at `at`, and a text after it; tells the index after both.
-fn put_field(table: &mut [u8; 48], at: usize, n: u64, after: &[u8]) -> usize
-    requires { at + length (decimal n) + length after.now ≤ 48 }
-    ensures { Put (decimal n ++ after.now) at table.old table.new result }
+// Fills the table with the text, and zeros after it; tells the text's length.
+pub fn fill<const N: usize>(table: &mut [u8; N], text: &ArrayString<N>) -> usize
+    ensures length { result ≡ length text.now.bytes }
+    ensures bytes { table.new ≡ text.now.bytes ++ replicate (N - length text.now.bytes) 0 }
+    ensures fits { length text.now.bytes ≤ N }
 {
-    let end = put_number(table, at, n);
-    put_text(table, end, after)
-}
-
-// Puts two numbers at the table's start, with texts before, between and after them; tells the index after all.
-fn put_pair(
-    table: &mut [u8; 48],
-    before: &[u8],
-    first: u64,
-    between: &[u8],
-    second: u64,
-    after: &[u8],
-) -> usize
-    requires { length before.now + length (decimal first) + length between.now + length (decimal second) + length after.now ≤ 48 }
-    ensures { Put (before.now ++ decimal first ++ between.now ++ decimal second ++ after.now) 0 table.old table.new result }
-{
-    let start = put_text(table, 0, before);
-    let middle = put_field(table, start, first, between);
-    put_field(table, middle, second, after)
-}
-
-// Puts a row at the table's start; tells its length.
-fn put_row(table: &mut [u8; 48], time: u64, limit: Option<u32>) -> usize
-    ensures { Put (text (Line.Row time limit)) 0 table.old table.new result }
-{
-    match limit {
-        Some(limit) => put_pair(table, b"", time, b" ", u64::from(limit), b"\n"),
-        None => put_field(table, 0, time, b" -\n"),
-    }
-}
-
-// Puts the line at the table's start; tells its length.
-fn put_line(table: &mut [u8; 48], line: Line) -> usize
-    ensures { Put (text line) 0 table.old table.new result }
-{
-    match line {
-        Line::Place { place, rows } => put_pair(
-            table,
-            b"place ",
-            u64::from(place),
-            b" rows ",
-            u64::from(rows),
-            b"\n",
-        ),
-        Line::Row { time, limit } => put_row(table, time, limit),
-        Line::Refused { number, offset } => put_pair(
-            table,
-            b"refused ",
-            u64::from(number),
-            b" at ",
-            offset,
-            b"\n",
-        ),
-    }
+    table.fill(0);
+    put(table, text)
 }
 
 // Fills the table with the line, line feed included, and zeros after it; tells the line's length.
@@ -126,8 +121,7 @@ pub fn write_line(line: Line, table: &mut [u8; 48]) -> usize
     ensures bytes { table.new ≡ text line ++ replicate (48 - length (text line)) 0 }
     ensures fits { length (text line) ≤ 48 }
 {
-    clear(table);
-    put_line(table, line)
+    fill(table, &line.text())
 }
 
 #[cfg(test)]

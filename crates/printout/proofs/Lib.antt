@@ -2,4 +2,4 @@ pub mod Loaded
 pub mod OneRecord
 pub mod Sheets
 pub mod Texts
-pub mod Written
+pub mod Told

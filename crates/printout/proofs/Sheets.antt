@@ -1,7 +1,6 @@
 -- What the sweep of a new book over the record's tables comes to.
-use Rattle.std.proofs.Common.{◌≡◌, ℕ, ◌<◌, ◌≤◌, List, map, length, take, sym, refl, ap, ◌∙◌, subst, arith}
+use Rattle.std.proofs.Common.{◌≡◌, ℕ, ◌<◌, ◌≤◌, List, length, take, refl, ap, subst, arith}
 use Rattle.book.specs.Faults.{planner_number}
-use Rattle.book.specs.Reading.{Serving, rows_there}
 use Rattle.book.specs.Sweeping.{Entered, Served, SweepRefused, unused}
 use Rattle.book.specs.declared.added.Added.{Added}
 use Rattle.book.specs.declared.book.Book.{Book}
@@ -18,13 +17,12 @@ use Rattle.lines.specs.declared.line.Line.TheVariants as line
 use Rattle.roads.specs.Networks as network
 use Rattle.roads.specs.declared.network.Network.{Network}
 use Rattle.roads.specs.declared.road.Road.{Road}
-use Rattle.rows.specs.Places.{pair_of}
 use Rattle.rows.specs.declared.row.Row.{Row}
 use Rattle.sweep.specs.Sweeps.{plan_of, Crowded}
 use Rattle.trips.specs.Efficient.{UniqueRows}
 use Rattle.trips.specs.Pages.{Page, Rows, all_rows}
 use Rattle.printout.specs.Record.{CrowdedOut, Listed, by_load, places_text, by_time}
-use Rattle.printout.specs.Sheets.{There, pairs_listed}
+use Rattle.printout.specs.Sheets.{pairs_listed}
 
 -- a new book on the network n, by the record's criteria, over a table of 1,024 rows
 pub record New (n : Network) (k : Book Sum Limit) (rows : List (Row SumValue LimitValue)) : Type 0 where
@@ -40,22 +38,12 @@ module _ (n : Network) (roads : List Road) (k : Book Sum Limit) (rows : List (Ro
   room_is = omega (arith, new.long, new.unused_all)
 
   module _ (k' : Book Sum Limit) (rows' : List (Row SumValue LimitValue)) (added : Added) (e : Entered (sum_meaning k.first.column.index) (limit_meaning k.second.column.index) k k' roads rows rows' 0 added) where
-    -- every place can be read
-    pub there : (p : ℕ) → p < n.places → There k' rows' p
-    there p lt =
-        let one = e.book in
-        record {
-          serving = subst (λ x. Serving (sum_meaning x.column.index) (limit_meaning k'.second.column.index) k' rows') (sym one.first) (subst (λ x. Serving (sum_meaning k.first.column.index) (limit_meaning x.column.index) k' rows') (sym one.second) e.again.by_rows);
-          sheet = omega (arith, one.count);
-          place = subst (λ x. p < x.places) (sym (one.network ∙ new.network)) lt;
-        }
-
     -- by the record's criteria
     e' : Entered by_time by_load k k' roads rows rows' 0 added
     e' = subst (λ j. Entered by_time (limit_meaning j) k k' roads rows rows' 0 added) new.second (subst (λ i. Entered (sum_meaning i) (limit_meaning k.second.column.index) k k' roads rows rows' 0 added) new.first e)
 
     page : (p : ℕ) → Page by_time by_load (plan_of by_time by_load k.network roads 0) p (pairs_listed k' rows' p)
-    page p = subst (λ s. Page by_time by_load (plan_of by_time by_load k.network roads 0) p (map pair_of (rows_there k' rows' s p))) (e.sheet ∙ new.empty) (e'.pages p)
+    page p = rw (e.sheet, new.empty) at e'.pages p
 
     module _ (unique : UniqueRows by_time by_load) where
       -- all places together have at most 1,024 rows
@@ -74,12 +62,12 @@ module _ (n : Network) (roads : List Road) (k : Book Sum Limit) (rows : List (Ro
 
   -- what holds of the book's criteria, network and room holds of the record's
   by_program : (P : ℕ → ℕ → Network → ℕ → Type 0) → P k.first.column.index k.second.column.index k.network (unused k rows) → P 0 2 n 1024
-  by_program P h = subst (P 0 2 n) room_is (subst (λ x. P 0 2 x (unused k rows)) new.network (subst (λ j. P 0 j k.network (unused k rows)) new.second (subst (λ i. P i k.second.column.index k.network (unused k rows)) new.first h)))
+  by_program P h = rw (new.first, new.second, new.network, room_is) at h
 
   -- the tables serve a new book
   served : network.Serving n roads → Served (sum_meaning k.first.column.index) (limit_meaning k.second.column.index) k roads rows
   served h = record {
-    by_roads = subst (λ x. network.Serving x roads) (sym new.network) h;
+    by_roads = rw new.network h;
     by_rows = record { long = omega (arith, new.unused_all); each = λ i d lt. let none : length (take k.count k.sheets) ≡ 0 = ap (λ c. length (take c k.sheets)) new.empty in absurd (omega arith) };
   }
 

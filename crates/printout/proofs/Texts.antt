@@ -1,5 +1,5 @@
 -- The lines of rows and places, one more.
-use Rattle.std.proofs.Common.{◌≡◌, ℕ, zero, suc, ◌+◌, ◌<◌, ◌≤◌, List, [], ◌∷◌, ◌++◌, map, length, get_or, take, sym, refl, ap, ◌∙◌, subst, ⊎_elim, append_assoc, append-nil, add-one, arith}
+use Rattle.std.proofs.Common.{◌≡◌, ℕ, zero, suc, ◌+◌, ◌<◌, ◌≤◌, List, [], ◌∷◌, ◌++◌, map, length, get_or, take, sym, refl, ap, ◌∙◌, subst, ⊎_elim, append_assoc, append-nil, arith}
 use Rattle.std.proofs.lemmas.Bool.{cases_lt}
 use lib.ListN.{length-map}
 use Rattle.std.proofs.lemmas.List.{get_or-map, take_more}
@@ -8,7 +8,7 @@ use Rattle.criteria.specs.declared.sum.SumValue.{SumValue}
 use Rattle.rows.specs.Places.{RowAt, pair_of}
 use Rattle.rows.specs.declared.row.Row.{Row}
 use Rattle.trips.specs.Pages.{all_rows}
-use Rattle.printout.specs.Record.{Pair, Written, by_load, place_text, places_text, row_text, rows_text, by_time}
+use Rattle.printout.specs.Record.{Pair, by_load, row_text, rows_text, by_time}
 
 rows_text-++ : (xs ys : List Pair) → rows_text (xs ++ ys) ≡ rows_text xs ++ rows_text ys
 rows_text-++ [] ys = refl
@@ -24,13 +24,9 @@ rows_text_more rows i x (low, is) =
     ap (λ l. rows_text (take i pairs) ++ l) (append-nil (row_text (get_or pairs i (pair_of x)))) ∙
     ap (λ p. rows_text (take i pairs) ++ row_text p) here
 
--- the text with one row more
-pub row_written : (rows : List (Row SumValue LimitValue)) (i : ℕ) (x : Row SumValue LimitValue) (out : List ℕ) (end : ℕ) (table : List ℕ) → RowAt rows i x → Written ((out ++ rows_text (take i (map pair_of rows))) ++ row_text (pair_of x)) end table → Written (out ++ rows_text (take (i + 1) (map pair_of rows))) end table
-row_written rows i x out end table at = subst (λ l. Written l end table) (append_assoc out (rows_text (take i (map pair_of rows))) (row_text (pair_of x)) ∙ ap (λ l. out ++ l) (sym (rows_text_more rows i x at)))
-
--- the rows of the first places, and of one more
-pub rows_more : (pages : ℕ → List Pair) (n : ℕ) → all_rows by_time by_load pages (n + 1) ≡ all_rows by_time by_load pages n + length (pages n)
-rows_more pages n = ap (all_rows by_time by_load pages) (add-one n)
+-- a text that ends with those lines, and the line of one row more
+pub row_more : (rows : List (Row SumValue LimitValue)) (i : ℕ) (x : Row SumValue LimitValue) (out : List ℕ) → RowAt rows i x → (out ++ rows_text (take i (map pair_of rows))) ++ row_text (pair_of x) ≡ out ++ rows_text (take (i + 1) (map pair_of rows))
+row_more rows i x out at = append_assoc out (rows_text (take i (map pair_of rows))) (row_text (pair_of x)) ∙ ap (λ l. out ++ l) (sym (rows_text_more rows i x at))
 
 -- one place more has no more rows than all have together
 pub rows_below : (pages : ℕ → List Pair) (p n : ℕ) → p < n → all_rows by_time by_load pages p + length (pages p) ≤ all_rows by_time by_load pages n
@@ -39,7 +35,3 @@ rows_below pages p (suc n) low = ⊎_elim
     (λ below. let h = rows_below pages p n below in omega arith)
     (λ high. let same : n ≡ p = omega arith in subst (λ m. all_rows by_time by_load pages p + length (pages p) ≤ all_rows by_time by_load pages m + length (pages m)) (sym same) (omega arith))
     (cases_lt p n)
-
--- the text with one place more
-pub place_written : (pages : ℕ → List Pair) (n end : ℕ) (table : List ℕ) → Written (places_text pages n ++ place_text n (pages n)) end table → Written (places_text pages (n + 1)) end table
-place_written pages n end table = subst (λ l. Written l end table) (sym (ap (places_text pages) (add-one n)))

@@ -1,5 +1,6 @@
 -- The whole record of a road file: each place with the rows of its page, or the refusal.
 use Rattle.std.specs.Prelude.{◌≡◌, ℕ, zero, suc, ◌-◌, ◌<◌, ◌≤◌, false, ◌⊎◌, List, [], ◌∷◌, ◌++◌, length, replicate, Some, None, Ok, Err, Option, Result}
+use Rattle.arrayvec.specs.ArrayString.{ArrayString}
 use Rattle.criteria.specs.Limit.{limit_meaning}
 use Rattle.criteria.specs.Meaning.{Meaning}
 use Rattle.criteria.specs.Sum.{sum_meaning}
@@ -15,6 +16,8 @@ use Rattle.sweep.specs.Sweeps.{plan_of, Crowded}
 use Rattle.trips.specs.Pages.{Pages, Rows, all_rows}
 use Rattle.lines.specs.declared.line.Line.TheVariants as line
 use Rattle.lines.specs.Text.{text}
+use Rattle.printout.specs.Faults.{text_told}
+use Rattle.printout.specs.declared.fault.RecordFault.{RecordFault}
 
 -- a row as it is printed: its time and its limit
 abbrev pub Pair : Type 0
@@ -90,11 +93,9 @@ pub record Written (out : List ℕ) (n : ℕ) (table : List ℕ) : Type 0 where
   pub fits : n ≤ 147456
   pub bytes : table ≡ out ++ replicate (147456 - length out) 0
 
--- the table holds the text for what a loading answered
-pub record Noted (answer : Result Network LoadFault) (roads : List Road) (table : List ℕ) (n : ℕ) : Type 0 where
-  pub out : List ℕ
-  pub answered : Answered answer roads out
-  pub written : Written out n table
+-- the lines of every place, or the line of a fault, are the text for what a loading answered
+abbrev pub Noted : Result Network LoadFault → List Road → Result ArrayString RecordFault → Type 0
+Noted answer roads told = Answered answer roads (text_told told)
 
 -- the table holds the record of the file
 pub record Told (file table : List ℕ) (n : ℕ) : Type 0 where

@@ -11,6 +11,7 @@ use Rattle.criteria.specs.declared.sum.SumValue.{SumValue}
 use Rattle.rows.specs.Places.{pair_of}
 use Rattle.rows.specs.declared.row.Row.{Row}
 use Rattle.printout.specs.Record.{Pair}
+use Rattle.printout.specs.declared.sheet.FirstSheet.{FirstSheet}
 
 -- the place can be read in the book's first sheet
 abbrev pub There : Book Sum Limit → List (Row SumValue LimitValue) → ℕ → Type 0
@@ -23,3 +24,15 @@ rows_listed k rows place = rows_there k rows 0 place
 -- their values
 abbrev pub pairs_listed : Book Sum Limit → List (Row SumValue LimitValue) → ℕ → List Pair
 pairs_listed k rows place = map pair_of (rows_listed k rows place)
+
+-- the same of that sheet as one value
+abbrev pub IsThere : FirstSheet → ℕ → Type 0
+IsThere s place = There s.book.now s.rows.now place
+
+-- its rows at the place
+abbrev pub rows_at : FirstSheet → ℕ → List (Row SumValue LimitValue)
+rows_at s place = rows_listed s.book.now s.rows.now place
+
+-- their values
+abbrev pub pairs_at : FirstSheet → ℕ → List Pair
+pairs_at s place = pairs_listed s.book.now s.rows.now place

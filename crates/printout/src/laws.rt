@@ -9,7 +9,7 @@ use trips::pages_are_unique;
 pub fn one_record()
     ensures { OneRecord }
 {
-    let _ = one_outcome();
+    one_outcome();
     one_page();
 }
 

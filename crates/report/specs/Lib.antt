@@ -1,3 +1,2 @@
-pub mod Put
+pub mod Reading
 pub mod Record
-pub mod Text

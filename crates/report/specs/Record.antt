@@ -4,9 +4,9 @@ use Rattle.roads.specs.declared.road.Road.{Road}
 use Rattle.roadfile.specs.declared.fault.LoadFault.{LoadFault}
 use Rattle.roadfile.specs.Faults.{file_number}
 use Rattle.roadfile.specs.Loading.{Loaded}
-use Rattle.report.specs.declared.line.Line.{Line}
-use Rattle.report.specs.declared.line.Line.TheVariants as line
-use Rattle.report.specs.Text.{text}
+use Rattle.lines.specs.declared.line.Line.{Line}
+use Rattle.lines.specs.declared.line.Line.TheVariants as line
+use Rattle.lines.specs.Text.{text}
 
 -- the line for what a loading answers
 abbrev pub line_of : Result Network LoadFault → Line

@@ -1,8 +1,9 @@
 // What the program prints: one line, and the record of a road file.
 #![tactic(auto)]
 
-mod line;
 mod record;
+mod refusal;
 
-pub use line::{Line, write_line};
-pub use record::write_record;
+pub use lines::{Line, write_line};
+pub use record::{BLANK, ROADS, network_of, write_record};
+pub use refusal::Refusal;

@@ -1,42 +1,44 @@
 ghost use Rattle.std.specs.Prelude.{◌≡◌, ◌≤◌, length};
+ghost use Rattle.report.specs.Reading.{NetworkOf};
 ghost use Rattle.report.specs.Record.{Says, Told};
 
-use crate::{Line, write_line};
+use crate::Refusal;
+use lines::{Line, write_line};
 use roadfile::load;
-use roads::Road;
+use roads::{Network, Road};
 
 // The most bytes that a road file given to the program may have.
 const FILE: usize = 65536;
-// The refusal of a longer one.
-const TOO_LONG: u32 = 21;
 // The roads of the table that the program loads a file into.
-const ROADS: usize = 1024;
+pub const ROADS: usize = 1024;
+// An entry of that table before a file is loaded.
+pub const BLANK: Road = Road {
+    start: 0,
+    end: 0,
+    marks: [0; 4],
+    open: false,
+};
+
+// Loads a road file into the table, if it is not too long.
+pub fn network_of(file: &[u8], table: &mut [Road; ROADS]) -> Result<Network, Refusal>
+    ensures { NetworkOf file.now table.old table.new result }
+{
+    if file.len() > FILE {
+        return Err(Refusal::TooLong);
+    }
+    Ok(load(file, table)?)
+}
 
 // The line that a road file comes to: what was loaded, or why it was refused.
 fn line_of(file: &[u8]) -> Line
     ensures { Says file.now result }
 {
-    if file.len() > FILE {
-        return Line::Refused {
-            number: TOO_LONG,
-            offset: 0,
-        };
-    }
-    let mut table = [Road {
-        start: 0,
-        end: 0,
-        marks: [0; 4],
-        open: false,
-    }; ROADS];
-    match load(file, &mut table) {
+    match network_of(file, &mut [BLANK; ROADS]) {
         Ok(network) => Line::Loaded {
             places: network.places(),
             roads: network.roads(),
         },
-        Err(refusal) => Line::Refused {
-            number: refusal.fault.number(),
-            offset: refusal.offset,
-        },
+        Err(refusal) => Line::from(refusal),
     }
 }
 

@@ -13,15 +13,8 @@ fn first_file(input: &[u8]) -> Option<(&[u8], &[u8])>
     ensures file { MatchOption result (length input.now < 4 + size_of input.now) (λ parts. (4 + size_of input.now ≤ length input.now) × (parts.0.now ≡ take (size_of input.now) (drop 4 input.now)) × (parts.1.now ≡ drop (size_of input.now) (drop 4 input.now))) }
     ensures shorter { IfSome result (λ parts. length parts.1.now < length input.now) }
 {
-    if input.len() < 4 {
-        return None;
-    }
-    let size = u32::from_le_bytes([input[0], input[1], input[2], input[3]]) as usize;
-    let rest = &input[4..];
-    if size > rest.len() {
-        return None;
-    }
-    Some(rest.split_at(size))
+    let (size, rest) = input.split_first_chunk::<4>()?;
+    rest.split_at_checked(u32::from_le_bytes(*size) as usize)
 }
 
 // Writes the record of each file of the input.
@@ -32,7 +25,7 @@ fn run(rt: &HostRuntime) -> anyhow::Result<()> {
     while let Some((file, behind)) = first_file(rest) {
         let mut record = [0; RECORD];
         let length = write_record(file, &mut record);
-        rt.stdout().write_all(&record[0..length])?;
+        rt.stdout().write_all(&record[..length])?;
         rest = behind;
     }
     if !rest.is_empty() {
