@@ -1,5 +1,5 @@
 -- What the sweep of a new book over the record's tables comes to.
-use Rattle.std.proofs.Common.{◌≡◌, ℕ, ◌<◌, ◌≤◌, List, length, take, refl, ap, subst, arith}
+use Rattle.std.proofs.Common.{[], ◌∙◌, ◌≡◌, ℕ, ◌<◌, ◌≤◌, List, length, take, refl, ap, subst, arith}
 use Rattle.book.specs.Faults.{planner_number}
 use Rattle.book.specs.Sweeping.{Entered, Served, SweepRefused, unused}
 use Rattle.book.specs.declared.added.Added.{Added}
@@ -29,7 +29,7 @@ pub record New (n : Network) (k : Book Sum Limit) (rows : List (Row SumValue Lim
   pub network : k.network ≡ n
   pub first : k.first.column.index ≡ 0
   pub second : k.second.column.index ≡ 2
-  pub empty : k.count ≡ 0
+  pub empty : k.sheets.items ≡ []
   pub unused_all : k.used ≡ 0
   pub long : length rows ≡ 1024
 
@@ -43,7 +43,7 @@ module _ (n : Network) (roads : List Road) (k : Book Sum Limit) (rows : List (Ro
     e' = subst (λ j. Entered by_time (limit_meaning j) k k' roads rows rows' 0 added) new.second (subst (λ i. Entered (sum_meaning i) (limit_meaning k.second.column.index) k k' roads rows rows' 0 added) new.first e)
 
     page : (p : ℕ) → Page by_time by_load (plan_of by_time by_load k.network roads 0) p (pairs_listed k' rows' p)
-    page p = rw (e.sheet, new.empty) at e'.pages p
+    page p = let first : added.sheet ≡ 0 = e.sheet ∙ ap length new.empty in rw first at e'.pages p
 
     module _ (unique : UniqueRows by_time by_load) where
       -- all places together have at most 1,024 rows
@@ -68,14 +68,14 @@ module _ (n : Network) (roads : List Road) (k : Book Sum Limit) (rows : List (Ro
   served : network.Serving n roads → Served (sum_meaning k.first.column.index) (limit_meaning k.second.column.index) k roads rows
   served h = record {
     by_roads = rw new.network h;
-    by_rows = record { long = omega (arith, new.unused_all); each = λ i d lt. let none : length (take k.count k.sheets) ≡ 0 = ap (λ c. length (take c k.sheets)) new.empty in absurd (omega arith) };
+    by_rows = record { long = omega (arith, new.unused_all); each = λ i d lt. let none : length k.sheets.items ≡ 0 = ap length new.empty in absurd (omega arith) };
   }
 
   -- it is refused for want of rows, or not at all
   pub crowded_out : network.Serving n roads → (f : PlannerFault) → SweepRefused (sum_meaning k.first.column.index) (limit_meaning k.second.column.index) k roads rows 0 f → CrowdedOut n roads (text (line.Refused (planner_number f) 0))
   crowded_out h ForeignTable r = absurd (r (served h))
   crowded_out h NoSuchPlace r = absurd (omega (arith, r.1, k.network.some))
-  crowded_out h SheetsFull r = absurd (omega (arith, r.2, new.empty))
+  crowded_out h SheetsFull r = let none : length k.sheets.items ≡ 0 = ap length new.empty in absurd (omega (arith, r.2))
   crowded_out h RowsFull r = record {
     crowded = by_program (λ i j x m. Crowded (sum_meaning i) (limit_meaning j) x roads 0 m) r.3;
     more = by_program (λ i j x m. (c : ℕ) → Rows (sum_meaning i) (limit_meaning j) x.places (plan_of (sum_meaning i) (limit_meaning j) x roads 0) c → m < c) r.4;

@@ -16,7 +16,7 @@ new c = record {
   network = c.open-book.ensures.network;
   first = ap (λ x. x.column.index) c.open-book.ensures.first ∙ c.in_ok-time.ensures.1;
   second = ap (λ x. x.column.index) c.open-book.ensures.second ∙ c.in_ok-load.ensures.1;
-  empty = c.open-book.ensures.count;
+  empty = c.open-book.ensures.sheets;
   unused_all = c.open-book.ensures.used;
   long = length-replicate 1024 c.unused-rows.result;
 }
