@@ -1,5 +1,5 @@
 -- What the sweep of a new book over the record's tables comes to.
-use Rattle.std.proofs.Common.{[], ◌∙◌, ◌≡◌, ℕ, ◌<◌, ◌≤◌, List, length, take, refl, ap, subst, arith}
+use Rattle.std.proofs.Common.{[], ◌∙◌, ◌≡◌, ℕ, ◌<◌, ◌≤◌, List, length, refl, ap, subst, arith}
 use Rattle.book.specs.Faults.{planner_number}
 use Rattle.book.specs.Sweeping.{Entered, Served, SweepRefused, unused}
 use Rattle.book.specs.declared.added.Added.{Added}

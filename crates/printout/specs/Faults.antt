@@ -2,18 +2,16 @@
 use Rattle.std.specs.Prelude.{ℕ, List, Ok, Err, Result}
 use Rattle.arrayvec.specs.ArrayString.{ArrayString}
 use Rattle.book.specs.Faults.{planner_number}
-use Rattle.criteria.specs.Fault.{fault_number}
 use Rattle.lines.specs.Text.{text}
 use Rattle.lines.specs.declared.line.Line.{Line}
 use Rattle.lines.specs.declared.line.Line.TheVariants as line
 use Rattle.report.specs.Reading.{refusal_line}
 use Rattle.printout.specs.declared.fault.RecordFault.{RecordFault}
-use Rattle.printout.specs.declared.fault.RecordFault.TheVariants.{File, Criterion, Planner}
+use Rattle.printout.specs.declared.fault.RecordFault.TheVariants.{File, Planner}
 
 -- the line of a fault: one that is not the file's is at offset 0
 abbrev pub fault_line : RecordFault → Line
 fault_line (File r) = refusal_line r
-fault_line (Criterion f) = line.Refused (fault_number f) 0
 fault_line (Planner f) = line.Refused (planner_number f) 0
 
 -- the text of the lines of every place, or of the fault's line

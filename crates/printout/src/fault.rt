@@ -1,10 +1,8 @@
 ghost use Rattle.std.specs.Prelude.{◌≡◌};
 ghost use Rattle.printout.specs.Faults.{fault_line};
-ghost use Rattle.lines.specs.declared.line.Line.TheVariants as line;
 ghost use Rattle.printout.specs.declared.fault.RecordFault.TheVariants as fault;
 
 use book::PlannerFault;
-use criteria::CriterionFault;
 use lines::Line;
 use report::Refusal;
 
@@ -13,8 +11,6 @@ use report::Refusal;
 pub(crate) enum RecordFault {
     // There is no network for the road file.
     File(Refusal),
-    // A criterion is refused.
-    Criterion(CriterionFault),
     // The sweep is refused.
     Planner(PlannerFault),
 }
@@ -24,14 +20,6 @@ impl From<Refusal> for RecordFault {
 
     fn from(refusal: Refusal) -> RecordFault {
         RecordFault::File(refusal)
-    }
-}
-
-impl From<CriterionFault> for RecordFault {
-    ghost from_gives = { λ f r. r ≡ fault.Criterion f };
-
-    fn from(fault: CriterionFault) -> RecordFault {
-        RecordFault::Criterion(fault)
     }
 }
 
@@ -50,15 +38,10 @@ impl From<RecordFault> for Line {
     fn from(fault: RecordFault) -> Line {
         match fault {
             RecordFault::File(refusal) => Line::from(refusal),
-            RecordFault::Criterion(fault) => refused(fault.number()),
-            RecordFault::Planner(fault) => refused(fault.number()),
+            RecordFault::Planner(fault) => Line::Refused {
+                number: fault.number(),
+                offset: 0,
+            },
         }
     }
-}
-
-// A refusal by that number at offset 0.
-fn refused(number: u32) -> Line
-    ensures { result ≡ line.Refused number 0 }
-{
-    Line::Refused { number, offset: 0 }
 }

@@ -17,11 +17,7 @@ pub fn one_record()
 fn one_page()
     ensures { UniquePage by_time by_load }
 {
-    let Ok(time) = Sum::new(0) else {
-        return;
-    };
-    let Ok(load) = Limit::new(2) else {
-        return;
-    };
+    let time = Sum::new(0).unwrap();
+    let load = Limit::new(2).unwrap();
     pages_are_unique(&time, &load);
 }

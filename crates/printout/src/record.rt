@@ -65,8 +65,8 @@ fn swept(network: &Network, roads: &[Road]) -> Result<ArrayString<RECORD>, Recor
     requires { Serving network.now roads.now }
     ensures { Noted (Ok network.now) roads.now result }
 {
-    let time = Sum::new(TIME)?;
-    let load = Limit::new(LOAD)?;
+    let time = Sum::new(TIME).unwrap();
+    let load = Limit::new(LOAD).unwrap();
     rows_are_counted(&time, &load);
     let first = SumValue { total: 0 };
     let second = LimitValue::Unlimited;

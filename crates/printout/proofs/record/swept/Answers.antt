@@ -1,5 +1,7 @@
-use Rattle.std.proofs.Common.{◌≡◌, ◌≤◌, length, replicate, ap, ◌∙◌, inl, inr, arith}
+use Rattle.std.proofs.Common.{ℕ, Ok, Result, subst, ◌≡◌, ◌≤◌, length, replicate, ap, ◌∙◌, inl, inr, arith}
 use lib.ListN.{length-replicate}
+use Rattle.criteria.specs.Fault.{Made}
+use Rattle.criteria.specs.declared.fault.CriterionFault.{CriterionFault}
 use Rattle.trips.specs.Efficient.{UniqueRows}
 use Rattle.trips.specs.Pages.{all_rows}
 use Rattle.printout.specs.Record.{by_load, by_time}
@@ -10,12 +12,22 @@ use Rattle.printout.specs.declared.fault.RecordFault.TheVariants.{Planner}
 use Rattle.printout.proofs.record.swept.Goals as goal
 use Rattle.printout.proofs.record.swept.Goals.{After-open-book}
 
+-- a criterion of a mark that there is reads that mark
+made_of : {T : Type 0} (column : T → ℕ) (n : ℕ) (r : Result T CriterionFault) (x : T) → Made column n r → r ≡ Ok x → column x ≡ n
+made_of column n r x made is = (subst (Made column n) is made).1
+
+time_is : (c : After-open-book) → c.unwrap-time.result.column.index ≡ 0
+time_is c = made_of (λ s. s.column.index) 0 c.new.result c.unwrap-time.result c.new.ensures c.unwrap-time.ensures
+
+load_is : (c : After-open-book) → c.unwrap-load.result.column.index ≡ 2
+load_is c = made_of (λ l. l.column.index) 2 c.new-2.result c.unwrap-load.result c.new-2.ensures c.unwrap-load.ensures
+
 -- the book is new, and so is its table
 new : (c : After-open-book) → New c.args.network.now c.open-book.result (replicate 1024 c.unused-rows.result)
 new c = record {
   network = c.open-book.ensures.network;
-  first = ap (λ x. x.column.index) c.open-book.ensures.first ∙ c.in_ok-time.ensures.1;
-  second = ap (λ x. x.column.index) c.open-book.ensures.second ∙ c.in_ok-load.ensures.1;
+  first = ap (λ x. x.column.index) c.open-book.ensures.first ∙ time_is c;
+  second = ap (λ x. x.column.index) c.open-book.ensures.second ∙ load_is c;
   empty = c.open-book.ensures.sheets;
   unused_all = c.open-book.ensures.used;
   long = length-replicate 1024 c.unused-rows.result;
@@ -23,7 +35,7 @@ new c = record {
 
 -- a plan has one number of rows by the record's criteria
 unique : (c : After-open-book) → UniqueRows by_time by_load
-unique c = rw (c.in_ok-time.ensures.1, c.in_ok-load.ensures.1) at c.rows_are_counted.ensures.unique
+unique c = rw (time_is c, load_is c) at c.rows_are_counted.ensures.unique
 
 pub push_places-requires-clause-room : goal.push_places-requires-clause-room
 push_places-requires-clause-room c =
@@ -42,7 +54,7 @@ returns-in_err-sweep c =
     let o = (goal.at.returns-in_err-sweep c).After-open-book in
     let f = c.in_err-sweep.field-0.0 in
     let out = crowded_out n c.args.roads.now c.open-book.result (replicate 1024 c.unused-rows.result) (new o) c.requires f c.in_err-sweep.ensures.0 in
-    inr (rw (fault_told _ (Planner f) c.from_residual-in_err-sweep.ensures.1) out)
+    inr (rw (fault_told _ (Planner f) c.from_residual.ensures.1) out)
 
 pub returns : goal.returns
 returns c =
