@@ -6,6 +6,8 @@ use book::{Book, PlannerFault};
 use criteria::{Lexical, LexicalValue, Peak, PeakValue, Sum, SumValue};
 use rows::Row;
 
+// Two functions, since each says another optimum of another call.
+
 // The row with the least sums, and on a tie the least peak.
 pub fn least_sums_then_peak<'r>(
     book: &Book<Lexical<Sum, Sum>, Peak>,

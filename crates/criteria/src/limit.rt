@@ -9,6 +9,7 @@ use crate::criterion::Criterion;
 use crate::fault::CriterionFault;
 
 // What a trip is worth by Limit.
+// An enum of its own: by its derived order no limit lies above every mark, where the None of an Option would lie below.
 #[derive(Clone, Copy, Debug, PartialEq, Eq, PartialOrd, Ord)]
 pub enum LimitValue {
     // The least mark of the roads.
@@ -34,6 +35,8 @@ impl Limit {
     }
 }
 
+// Peak beside it is no twin that one generic type could serve: what each means, and its laws, would be members of that type's
+// parameter, as many as stand here.
 impl Criterion for Limit {
     type Value = LimitValue;
 

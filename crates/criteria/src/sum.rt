@@ -21,6 +21,7 @@ pub struct Sum {
 
 impl Sum {
     // Sum by the mark of that number, refused where it is above 3.
+    // Limit and Peak are made likewise: one generic function would need a trait that says how each is made of a column.
     pub fn new(column: u32) -> Result<Sum, CriterionFault>
         ensures { Made (λ (s : Sum). s.column.index) column result }
     {

@@ -27,6 +27,7 @@ impl FirstSheet<'_> {
         requires room { length output.old.bytes + 48 * (places + all_rows by_time by_load (pairs_at self.now) places) ≤ 147456 }
         ensures { output.new.bytes ≡ output.old.bytes ++ places_text (pairs_at self.now) places }
     {
+        // Over numbers: a network has no list of its places.
         for place in 0..places {
             self.push_place(output, place);
         }
@@ -43,6 +44,7 @@ impl FirstSheet<'_> {
             unreachable!();
         };
         push_line(output, Line::Place { place, rows: count });
+        // Over numbers: a book answers a row by its index.
         for index in 0..count {
             self.push_row(output, place, index);
         }

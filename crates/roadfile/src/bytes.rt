@@ -1,4 +1,4 @@
-// Little-endian numbers in a run of bytes.
+// Little-endian numbers in a run of bytes. Two functions of two lines: std has no trait for the `from_le_bytes` of both types.
 ghost use Rattle.std.specs.Prelude.{◌≡◌, ◌≤◌, ◌++◌, length};
 ghost use Rattle.roadfile.specs.Format.{little};
 

@@ -44,6 +44,7 @@ pub fn load(file: &[u8], table: &mut [Road]) -> Result<Network, LoadFault>
     let mut reader = Reader::open(file)?;
     let mut draft = Draft::new();
     let mut offset = 0;
+    // No `for`: what a reader answers may be a fault, which ends the loop by `?`.
     while let Some(item) = reader.next()? {
         offset = item.offset;
         add_item(&item, &mut draft, table)?;

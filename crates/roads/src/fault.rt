@@ -17,7 +17,7 @@ pub enum DraftFault {
 }
 
 impl DraftFault {
-    // The number by which the refusal is known.
+    // The number by which the refusal is known. Each enum of refusals has this method: its contract names that enum's numbers.
     pub fn number(&self) -> u32
         ensures { result ≡ draft_number self.now }
     {

@@ -3,6 +3,8 @@ ghost use Rattle.rows.specs.Places.{RowAt, rows_at, rows_of, StandsAt, Position}
 
 use crate::{Row, Sheet};
 
+// The functions below take the table, the sheet and the place apart, as their callers have them: the call of a book asks for each.
+
 // How many rows of the sheet end at the place.
 pub fn count_at<X, Y>(table: &[Row<X, Y>], sheet: &Sheet, place: u32) -> u32
     ensures { result ≡ length (rows_at place (rows_of sheet.now table.now)) }

@@ -1,6 +1,6 @@
 ghost use Rattle.std.specs.Prelude.{◌≡◌};
 
-// Where a row comes from. Rows are named by their places in the row table.
+// Where a row comes from. Rows are named by their places in the row table, which is the caller's: nothing is allocated.
 #[derive(Clone, Copy, Debug, PartialEq, Eq)]
 pub enum Source {
     // The empty trip.

@@ -22,6 +22,7 @@ fn run(rt: &HostRuntime) -> anyhow::Result<()> {
     let mut input = Vec::new(rt.alloc());
     rt.stdin().read_to_end(&mut input)?;
     let mut rest = input.as_slice();
+    // No `for`: each turn is left the input behind its file.
     while let Some((file, behind)) = first_file(rest) {
         let mut record = [0; RECORD];
         let length = write_record(file, &mut record);

@@ -1,6 +1,7 @@
 ghost use Rattle.std.specs.Prelude.{◌≡◌, ◌<◌, length, replicate, Some, None, slice_index_or, slice_set};
 
 // The rows of a search, place by place: for each place the last row there, and for each row the last one before it at its place.
+// Fixed arrays of numbers, as a sweep allocates nothing.
 #[derive(Drop)]
 pub struct Links {
     last: [Option<u32>; 2048],

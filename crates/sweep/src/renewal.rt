@@ -13,6 +13,8 @@ use rows::{Row, Source};
 
 // A search that has a row more, until its frontier is ready again: the criteria, the roads, the rows so far, which stand behind
 // `base` others in their table, their links, and the newest row and where it ends.
+// Its methods ask for Standing in their clauses: a ghost field holds a fact of one proof at most, and the laws of a criterion may
+// have more. Its fields are those of Search, and not a Search, so that clauses name them shortly.
 #[derive(Drop)]
 pub(crate) struct Renewal<'s, A: Criterion, B: Criterion> {
     pub(crate) first: &'s A,
@@ -108,6 +110,7 @@ impl<A: Criterion, B: Criterion> Renewal<'_, A, B> {
         ensures kept { Kept (A.Criterion.meaning self.now.first.now) (B.Criterion.meaning self.now.second.now) self.now.place best.old.rows best.new.rows }
         ensures held { Held (A.Criterion.meaning self.now.first.now) (B.Criterion.meaning self.now.second.now) self.now.roads.now self.now.base self.now.rows.now best.new.rows (λ _ k. k < j + 1) self.now.place }
     {
+        // No `for`: the links lead from row to row.
         let mut at = self.links.last_at(self.roads[j].start);
         while let Some(i) = at {
             self.try_row(best, i, j);

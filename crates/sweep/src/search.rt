@@ -129,6 +129,7 @@ impl<A: Criterion, B: Criterion> Search<'_, A, B> {
         ensures searched { Searched (A.Criterion.meaning self.now.first.now) (B.Criterion.meaning self.now.second.now) self.now.roads.now self.now.places self.now.origin self.now.base rows.new result }
         ensures sourced { IfSome result (λ count. Sourced (length self.now.roads.now) self.now.base (take count rows.new)) }
     {
+        // No `for`: how many steps there are shows only at the last.
         let mut n = 1;
         while self.advance(frontier, rows, n)? {
             n += 1;

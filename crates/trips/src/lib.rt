@@ -9,6 +9,8 @@ ghost use Rattle.trips.specs.Worths.{WorthOfBoth};
 
 use criteria::{Criterion, laws_stand};
 
+// Each function is a theorem: its body only brings the laws, and the two criteria are two parameters, as every caller has them.
+
 // The value of two trips, one after the other, is the join of their values.
 pub fn worths_join<A: Criterion>(a: &A)
     ensures { WorthOfBoth (A.Criterion.meaning a.now) }
