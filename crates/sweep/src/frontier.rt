@@ -5,7 +5,7 @@ use rows::Row;
 
 // For each place that a network may have the best uncovered extension into it, where there is one.
 #[derive(Drop)]
-pub struct Best<X, Y> {
+pub(crate) struct Best<X, Y> {
     pub(crate) rows: [Option<Row<X, Y>>; 2048],
     ghost sized: { length rows ≡ 2048 },
 }

@@ -3,7 +3,7 @@ ghost use Rattle.std.specs.Prelude.{◌≡◌, ◌<◌, length, replicate, Some,
 // The rows of a search, place by place: for each place the last row there, and for each row the last one before it at its place.
 // Fixed arrays of numbers, as a sweep allocates nothing.
 #[derive(Drop)]
-pub struct Links {
+pub(crate) struct Links {
     last: [Option<u32>; 2048],
     prev: [Option<u32>; 65536],
     ghost lasts: { length last ≡ 2048 },
