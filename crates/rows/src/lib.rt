@@ -10,3 +10,6 @@ pub use reading::{count_at, find_at, last_at, row_at};
 pub use row::{Row, Source};
 pub use sheet::Sheet;
 pub use soundness::sound;
+
+// The most rows of a row table that are used.
+pub const ROWS: usize = 65536;

@@ -1,11 +1,13 @@
 ghost use Rattle.std.specs.Prelude.{◌≡◌, ◌<◌, length, replicate, Some, None, slice_index_or, slice_set};
 
+use rows::ROWS;
+
 // The rows of a search, place by place: for each place the last row there, and for each row the last one before it at its place.
 // Fixed arrays of numbers, as a sweep allocates nothing.
 #[derive(Drop)]
 pub(crate) struct Links {
     last: [Option<u32>; 2048],
-    prev: [Option<u32>; 65536],
+    prev: [Option<u32>; ROWS],
     ghost lasts: { length last ≡ 2048 },
     ghost prevs: { length prev ≡ 65536 },
 }
@@ -17,7 +19,7 @@ impl Links {
     {
         Links {
             last: [None; 2048],
-            prev: [None; 65536],
+            prev: [None; ROWS],
         }
     }
 

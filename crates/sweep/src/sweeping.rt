@@ -5,10 +5,7 @@ use crate::Frontier;
 use crate::search::Search;
 use criteria::{Criterion, laws_stand};
 use roads::{Network, Road, serves};
-use rows::Row;
-
-// The most rows of a row table that are used.
-const ROWS: usize = 65536;
+use rows::{ROWS, Row};
 
 // Why a sweep is refused.
 #[derive(Clone, Copy, Debug, PartialEq, Eq)]

@@ -5,11 +5,8 @@ ghost use Rattle.book.specs.Sweeping.{Served, MayFollow, OneMore, Filled, Sweepi
 use crate::{Added, Book, PlannerFault};
 use criteria::Criterion;
 use roads::{Road, serves};
-use rows::{Row, Sheet};
+use rows::{ROWS, Row, Sheet};
 use sweep::{Frontier, SweepFault, sweep};
-
-// The most rows of a row table that are used.
-const ROWS: usize = 65536;
 
 impl<A, B> Book<A, B> {
     // Whether the book has as many sheets as it may have.

@@ -1,13 +1,8 @@
 use Rattle.std.proofs.Common.{refl, arith}
 use Rattle.std.proofs.lemmas.Bool.Decides.{not_from_Decides}
 use Rattle.rows.proofs.Sources.{item_at}
-use Rattle.rows.proofs.Checks.{denied, passed_none, passed_more, passed_all, lawful_at, lawful_cut}
+use Rattle.rows.proofs.Checks.{denied, passed_more, passed_all, lawful_at, lawful_cut}
 use Rattle.rows.proofs.soundness.Check.is_sheet_sound.Goals as goal
-
-pub loop-k-init : goal.loop-k-init
-loop-k-init g c =
-    let s = c.args.self.now in
-    passed_none (g.A.Criterion.meaning s.first.now) (g.B.Criterion.meaning s.second.now) s.places s.roads c.args.table.now c.args.sheet.now.reach c.args.sheet.now.start
 
 pub returns-then-not-is_lawful : goal.returns-then-not-is_lawful
 returns-then-not-is_lawful g c =
