@@ -74,7 +74,7 @@ pub fn row_of_yard(place: u32, index: u32) -> Result<(SumValue, LimitValue), Pla
 {
     let time = SumValue { total: 0 };
     let load = LimitValue::Unlimited;
-    let mut frontier = Frontier::new(time, load);
+    let mut frontier = Frontier::new();
     let mut rows = [Row::unused(time, load); 6];
     let (book, _) = list(&mut frontier, &mut rows)?;
     let row = look(&book, &rows, place, index)?;
