@@ -1,6 +1,5 @@
 -- What a sweep of a book on the yard answers.
-use Rattle.std.proofs.Common.{◌≡◌, ℕ, ◌<◌, true, List, map, length, get_or, take, is_err, IsErrAnd, Ok, Err, Result, sym, refl, ap, ◌∙◌, subst, arith}
-use Rattle.std.proofs.lemmas.Bool.{false≢true}
+use Rattle.std.proofs.Common.{◌≡◌, ℕ, ◌<◌, List, map, length, get_or, take, Ok, sym, refl, ap, ◌∙◌, subst, arith}
 use Rattle.book.specs.Reading.{Serving, rows_there}
 use Rattle.book.specs.Sweeping.{Served, Entered, SweepRefused, unused}
 use Rattle.book.specs.declared.added.Added.{Added}
@@ -63,7 +62,7 @@ module _ (k : Book Sum Limit) (roads : List Road) (rows : List (Row SumValue Lim
   }
 
   -- a sweep is refused only where there are fewer than 6 rows
-  refused : (f : PlannerFault) → SweepRefused (by_time k) (by_load k) k roads rows 0 f → (length rows < 6) × (f ≡ RowsFull)
+  pub refused : (f : PlannerFault) → SweepRefused (by_time k) (by_load k) k roads rows 0 f → (length rows < 6) × (f ≡ RowsFull)
   refused ForeignTable h = absurd (h serves)
   refused NoSuchPlace (_, far) = absurd (omega (arith, o.on.built.places))
   refused SheetsFull (_, _, full) = absurd (omega (arith, o.count))
@@ -73,10 +72,6 @@ module _ (k : Book Sum Limit) (roads : List Road) (rows : List (Row SumValue Lim
   refused NoSuchSheet h = absurd h
   refused NoSuchRow h = absurd h
   refused NoTrip h = absurd h
-
-  pub turned_down : (rows' : List (Row SumValue LimitValue)) (r : Result (Book Sum Limit × Added) PlannerFault) (f : PlannerFault) → is_err r ≡ true → IsErrAnd r (λ p. p ≡ f) → SweepRefused (by_time k) (by_load k) k roads rows 0 f → Swept rows rows' r
-  turned_down rows' (Ok given) f e h w = absurd (false≢true e)
-  turned_down rows' (Err p) f e h w = let (few, is) = refused f w in (few, h ∙ is)
 
   -- an accepted one adds sheet 0 with its 6 rows, which are those of the table
   module _ (k' : Book Sum Limit) (rows' : List (Row SumValue LimitValue)) (added : Added) (h : Entered (by_time k) (by_load k) k k' roads rows rows' 0 added) where
