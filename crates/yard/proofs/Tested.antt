@@ -38,28 +38,28 @@ leads_drives roads s (k ∷ ks) e t =
     let within = ltb-true k (length roads) low in
     (r, (record { numbered = (within, λ d. get_or_default roads k d unread within); free = free; same = refl; starts = eqb-true r.start s starts }, leads_drives roads r.end ks e rest))
 
-module _ {V W : Type 0} {a : Meaning V} {b : Meaning W} (ja : Judge a) (jb : Judge b) where
+module _ {V W : Type 0} {a : Meaning V} {b : Meaning W} {ta : V → V → Bool} {tb : W → W → Bool} (ja : Judge a ta) (jb : Judge b tb) where
   -- whether a pair covers another
   abbrev pub covers : V × W → V × W → Bool
-  covers p q = ja.test p.0 q.0 && jb.test p.1 q.1
+  covers p q = ta p.0 q.0 && tb p.1 q.1
 
   pub covers_yes : (p q : V × W) → covers p q ≡ true → Covers a b p q
   covers_yes p q t =
-      let (first, second) = and_parts (ja.test p.0 q.0) (jb.test p.1 q.1) t in
+      let (first, second) = and_parts (ta p.0 q.0) (tb p.1 q.1) t in
       record { first = ja.yes p.0 q.0 first; second = jb.yes p.1 q.1 second }
 
   -- whether a pair stands before another
   abbrev pub precedes : V × W → V × W → Bool
-  precedes p q = covers (p.0, q.1) (q.0, p.1) && (not (ja.test q.0 p.0) && not (jb.test p.1 q.1))
+  precedes p q = covers (p.0, q.1) (q.0, p.1) && (not (ta q.0 p.0) && not (tb p.1 q.1))
 
   pub precedes_yes : (p q : V × W) → precedes p q ≡ true → Precedes a b p q
   precedes_yes p q t =
-      let (better, apart) = and_parts (covers (p.0, q.1) (q.0, p.1)) (not (ja.test q.0 p.0) && not (jb.test p.1 q.1)) t in
-      let (first, second) = and_parts (not (ja.test q.0 p.0)) (not (jb.test p.1 q.1)) apart in
+      let (better, apart) = and_parts (covers (p.0, q.1) (q.0, p.1)) (not (ta q.0 p.0) && not (tb p.1 q.1)) t in
+      let (first, second) = and_parts (not (ta q.0 p.0)) (not (tb p.1 q.1)) apart in
       let c = covers_yes (p.0, q.1) (q.0, p.1) better in
       record {
-        first = record { better = c.first; apart = ja.no q.0 p.0 (not-true (ja.test q.0 p.0) first) };
-        second = record { better = c.second; apart = jb.no p.1 q.1 (not-true (jb.test p.1 q.1) second) };
+        first = record { better = c.first; apart = ja.no q.0 p.0 (not-true (ta q.0 p.0) first) };
+        second = record { better = c.second; apart = jb.no p.1 q.1 (not-true (tb p.1 q.1) second) };
       }
 
   -- whether one of the pairs covers x

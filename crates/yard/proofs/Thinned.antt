@@ -11,7 +11,7 @@ use Rattle.yard.proofs.Judges.{Judge}
 use Rattle.yard.proofs.Lists.{every, some, sorted, every_at, some_at, sorted_at}
 use Rattle.yard.proofs.Tested.{covers, covers_yes, precedes, precedes_yes, covered, covered_yes}
 
-module _ {V W : Type 0} {a : Meaning V} {b : Meaning W} (ja : Judge a) (jb : Judge b) where
+module _ {V W : Type 0} {a : Meaning V} {b : Meaning W} {ta : V → V → Bool} {tb : W → W → Bool} (ja : Judge a ta) (jb : Judge b tb) where
   -- whether two pairs are one
   abbrev same : V × W → V × W → Bool
   same p q = covers ja jb p q && covers ja jb q p
