@@ -1,6 +1,7 @@
 -- A computed test that trips, listed by their roads' numbers, make the pages of a sweep.
 use Rattle.std.proofs.Common.{◌≡◌, ℕ, zero, suc, ◌+◌, Bool, true, not, ◌&&◌, ◌||◌, eqb, ltb, List, [], ◌∷◌, map, length, get_or, sym, refl, ⊎_elim, arith}
 use Rattle.std.proofs.lemmas.List.{get_or_default}
+use Rattle.std.specs.List.{list_all, list_any}
 use Rattle.std.proofs.lemmas.Bool.{and_parts, or_cases, not-true, both_ways, ltb-true, eqb-true}
 use Rattle.criteria.specs.Covers.{Covers, Precedes}
 use Rattle.criteria.specs.Meaning.{Meaning}
@@ -12,7 +13,7 @@ use Rattle.trips.specs.Plans.{Drives, swept}
 use Rattle.trips.specs.Trips.{Use, onto, worth}
 use Rattle.yard.proofs.Closed.{Covered, longer, Closed, closed_whole}
 use Rattle.yard.proofs.Judges.{Judge}
-use Rattle.yard.proofs.Lists.{every, some, sorted, every_at, some_at, sorted_at}
+use Rattle.yard.proofs.Lists.{sorted, every_at, some_at, sorted_at}
 
 -- road number k of the table
 abbrev road_of_lem : List Road → ℕ → Road
@@ -64,7 +65,7 @@ module _ {V W : Type 0} {a : Meaning V} {b : Meaning W} {ta : V → V → Bool} 
 
   -- whether one of the pairs covers x
   abbrev pub covered : List (V × W) → V × W → Bool
-  covered pairs x = some (λ p. covers p x) pairs
+  covered pairs x = list_any (λ p. covers p x) pairs
 
   pub covered_yes : (pairs : List (V × W)) (x : V × W) → covered pairs x ≡ true → Covered a b pairs x
   covered_yes pairs x t = let (i, (p, (at, over))) = some_at (λ p. covers p x) pairs t in (i, (p, (at, covers_yes p x over)))
@@ -80,27 +81,27 @@ module _ {V W : Type 0} {a : Meaning V} {b : Meaning W} {ta : V → V → Bool} 
 
     -- whether a road, if it is open, leads no pair to one that is not covered
     abbrev closed_by : (ℕ → List (V × W)) → Road → Bool
-    closed_by pages r = not r.«open» || every (λ x. covered (pages r.end) (longer a b x r.marks)) (pages r.start)
+    closed_by pages r = not r.«open» || list_all (λ x. covered (pages r.end) (longer a b x r.marks)) (pages r.start)
 
     -- whether pages are closed under one road more
     abbrev closed : (ℕ → List (V × W)) → Bool
-    closed pages = covered (pages origin) (a.unit, b.unit) && every (closed_by pages) roads
+    closed pages = covered (pages origin) (a.unit, b.unit) && list_all (closed_by pages) roads
 
     closed_yes : (pages : ℕ → List (V × W)) → closed pages ≡ true → Closed a b roads origin pages
     closed_yes pages t =
-        let (start, steps) = and_parts (covered (pages origin) (a.unit, b.unit)) (every (closed_by pages) roads) t in
+        let (start, steps) = and_parts (covered (pages origin) (a.unit, b.unit)) (list_all (closed_by pages) roads) t in
         record {
           none = covered_yes (pages origin) (a.unit, b.unit) start;
           more = λ k r at free i x there.
               ⊎_elim
               (λ shut. absurd (both_ways r.«open» (not-true r.«open» shut) free))
               (λ on. covered_yes (pages r.end) (longer a b x r.marks) (every_at (λ y. covered (pages r.end) (longer a b y r.marks)) (pages r.start) on i x there))
-              (or_cases (not r.«open») (every (λ y. covered (pages r.end) (longer a b y r.marks)) (pages r.start)) (every_at (closed_by pages) roads steps k r at));
+              (or_cases (not r.«open») (list_all (λ y. covered (pages r.end) (longer a b y r.marks)) (pages r.start)) (every_at (closed_by pages) roads steps k r at));
         }
 
     -- whether trips lead to a place, with their pairs in the order of a page
     abbrev listed_at : ℕ → List (List ℕ) → Bool
-    listed_at p trips = every (λ ks. leads roads origin ks p) trips && sorted precedes (map value_of trips)
+    listed_at p trips = list_all (λ ks. leads roads origin ks p) trips && sorted precedes (map value_of trips)
 
     -- whether those listed for each place do, from place p on
     abbrev listed_from : ℕ → List (List (List ℕ)) → Bool
@@ -130,7 +131,7 @@ module _ {V W : Type 0} {a : Meaning V} {b : Meaning W} {ta : V → V → Bool} 
     tested places trips t p =
         let (whole, lists) = and_parts (closed (page trips)) (listed_from 0 trips) t in
         let here : listed_at p (get_or trips p []) ≡ true = let e : 0 + p ≡ p = omega arith in rw e at (listed_place trips 0 p lists) in
-        let (lead, order) = and_parts (every (λ ks. leads roads origin ks p) (get_or trips p [])) (sorted precedes (page trips p)) here in
+        let (lead, order) = and_parts (list_all (λ ks. leads roads origin ks p) (get_or trips p [])) (sorted precedes (page trips p)) here in
         record {
           sound = λ i x at.
               let (ks, (there, is)) = value_at (get_or trips p []) i x at in
