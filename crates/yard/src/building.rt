@@ -1,4 +1,4 @@
-ghost use Rattle.std.specs.Prelude.{◌≡◌, length};
+ghost use Rattle.std.specs.Prelude.{◌≡◌};
 ghost use Rattle.yard.specs.Building.{Begun, Built};
 
 use roads::{Draft, Network, Road};
@@ -30,7 +30,7 @@ fn places() -> Draft
 }
 
 // Adds the roads of the yard to the draft, in their order.
-fn lay(draft: &mut Draft, table: &mut [Road])
+fn lay(draft: &mut Draft, table: &mut [Road; 7])
     requires { Begun 0 draft.old table.old }
     ensures { Begun 7 draft.new table.new }
 {
@@ -40,8 +40,7 @@ fn lay(draft: &mut Draft, table: &mut [Road])
 }
 
 // Builds the yard in a table that has an entry for each road.
-pub(crate) fn build(table: &mut [Road]) -> Network
-    requires { length table.old ≡ 7 }
+pub(crate) fn build(table: &mut [Road; 7]) -> Network
     ensures { Built result table.new }
 {
     let mut draft = places();

@@ -9,8 +9,7 @@ use rows::Row;
 use sweep::Frontier;
 
 // A book on the yard, by the sum of mark 0 and the limit of mark 2.
-fn open(table: &mut [Road]) -> Book<Sum, Limit>
-    requires { length table.old ≡ 7 }
+fn open(table: &mut [Road; 7]) -> Book<Sum, Limit>
     ensures { Opened result table.new }
 {
     let network = build(table);
