@@ -17,6 +17,14 @@ const ROADS: [(u32, u32, [u32; 4]); 7] = [
     (3, 0, [12, 1, 500, 4]),
 ];
 
+// A road to fill a table with.
+const UNUSED: Road = Road {
+    start: 0,
+    end: 0,
+    marks: [0; 4],
+    open: true,
+};
+
 // A draft of the yard's places.
 fn places() -> Draft
     ensures places { result.places ≡ 4 }
@@ -39,11 +47,13 @@ fn lay(draft: &mut Draft, table: &mut [Road; 7])
     }
 }
 
-// Builds the yard in a table that has an entry for each road.
-pub(crate) fn build(table: &mut [Road; 7]) -> Network
-    ensures { Built result table.new }
+// The yard: its network, and the table of its roads.
+pub(crate) fn build() -> (Network, [Road; 7])
+    ensures { Built result.0 result.1 }
 {
     let mut draft = places();
-    lay(&mut draft, table);
-    draft.close(table).unwrap()
+    let mut table = [UNUSED; 7];
+    lay(&mut draft, &mut table);
+    let network = draft.close(&mut table).unwrap();
+    (network, table)
 }

@@ -8,31 +8,24 @@ use roads::Road;
 use rows::Row;
 use sweep::Frontier;
 
-// A book on the yard, by the sum of mark 0 and the limit of mark 2.
-fn open(table: &mut [Road; 7]) -> Book<Sum, Limit>
-    ensures { Opened result table.new }
+// A book on the yard, by the sum of mark 0 and the limit of mark 2, and the table of its roads.
+fn open() -> (Book<Sum, Limit>, [Road; 7])
+    ensures { Opened result.0 result.1 }
 {
-    let network = build(table);
+    let (network, table) = build();
     let time = Sum::new(0).unwrap();
     let load = Limit::new(2).unwrap();
-    Book::open(&network, time, load)
+    (Book::open(&network, time, load), table)
 }
 
-// Builds the yard, opens a book on it and sweeps from place 0.
+// Opens a book on the yard and sweeps from place 0.
 fn list(
     frontier: &mut Frontier<SumValue, LimitValue>,
     rows: &mut [Row<SumValue, LimitValue>],
 ) -> Result<(Book<Sum, Limit>, Added), PlannerFault>
     ensures { Swept rows.old rows.new result }
 {
-    let unused = Road {
-        start: 0,
-        end: 0,
-        marks: [0; 4],
-        open: true,
-    };
-    let mut table = [unused; 7];
-    let mut book = open(&mut table);
+    let (mut book, table) = open();
     let added = book.sweep(frontier, &table, rows, 0)?;
     Ok((book, added))
 }
