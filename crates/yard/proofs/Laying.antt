@@ -5,7 +5,7 @@ use Rattle.std.proofs.lemmas.List.{get_or-map, get_or-take, get_or_default, take
 use Rattle.std.proofs.lemmas.Bool.{and_parts, ltb-true}
 use Rattle.roads.proofs.Changes.{unread}
 use Rattle.roads.specs.Drafts.{Serving, LayingRefused, Laid, ClosingRefused, Closed}
-use Rattle.roads.specs.Tables.{opened}
+use Rattle.roads.specs.Tables.{Within, opened}
 use Rattle.roads.specs.declared.draft.Draft.{Draft}
 use Rattle.roads.specs.declared.draft.calls.Unclosed.{Unclosed}
 use Rattle.roads.specs.declared.fault.DraftFault.{DraftFault}
@@ -20,20 +20,18 @@ use Rattle.yard.proofs.Lists.{every_at}
 abbrev sound : Road → Bool
 sound r = (ltb r.start 4 && ltb r.end 4) && r.«open»
 
--- a road is open and names places of the yard
-pub record SoundRoad (r : Road) : Type 0 where
-  pub starts : r.start < 4
-  pub ends : r.end < 4
-  pub free : r.«open» ≡ true
-
 -- each road of the yard is such a one
-pub sound_road : (k : ℕ) (d : Road) → k < 7 → SoundRoad (get_or yard_roads k d)
+sound_road : (k : ℕ) (d : Road) → k < 7 → Within 4 (get_or yard_roads k d) × ((get_or yard_roads k d).«open» ≡ true)
 sound_road k d lt =
     let r = get_or yard_roads k d in
     let t = every_at sound yard_roads refl k r (lt, λ e. get_or_default yard_roads k e d lt) in
     let (both, free) = and_parts (ltb r.start 4 && ltb r.end 4) r.«open» t in
     let (start, end) = and_parts (ltb r.start 4) (ltb r.end 4) both in
-    record { starts = ltb-true r.start 4 start; ends = ltb-true r.end 4 end; free = free }
+    (record { starts = ltb-true r.start 4 start; ends = ltb-true r.end 4 end }, free)
+
+-- a road that is the yard's names places that exist, where there are four
+pub within_yard : (n k : ℕ) (d r : Road) → n ≡ 4 → k < 7 → r ≡ get_or yard_roads k d → Within n r
+within_yard n k d r places lt is = rw (places, is) (sound_road k d lt).0
 
 -- the table of a draft that was begun serves it
 begun_serves : (n : ℕ) (d : Draft) (t : List Road) → n ≤ 7 → Begun n d t → Serving d t
@@ -42,11 +40,7 @@ begun_serves n d t few b = record {
   named = λ i e lt.
       let low : i < n = omega (arith, b.roads) in
       let same = sym (get_or-take n t i e low) ∙ ap (λ l. get_or l i e) b.same ∙ get_or-take n yard_roads i e low in
-      let r = sound_road i e (omega arith) in
-      record {
-        starts = omega (arith, r.starts, b.places, ap (λ q. q.start) same);
-        ends = omega (arith, r.ends, b.places, ap (λ q. q.end) same);
-      };
+      within_yard d.places i e (get_or t i e) b.places (omega arith) same;
 }
 
 -- what a road is laid from: where it starts and ends, and its marks
@@ -62,8 +56,8 @@ module _ (n : ℕ) (d : Draft) (t : List Road) (low : n < 7) (b : Begun n d t) w
   not_refused : (f : DraftFault) → LayingRefused d t next.start next.end f → ⊥
   not_refused ForeignTable h = h (begun_serves n d t (omega (arith, low)) b)
   not_refused UnknownPlace (_, far) =
-      let s = sound_road n unread low in
-      ⊎_elim (λ h. omega (arith, s.starts, b.places)) (λ h. omega (arith, s.ends, b.places)) far
+      let w = within_yard d.places n unread next b.places low refl in
+      ⊎_elim (λ h. omega (arith, w.starts)) (λ h. omega (arith, w.ends)) far
   not_refused RoadsFull (_, _, _, full) = ⊎_elim (λ h. omega (arith, low, b.roads)) (λ h. omega (arith, low, b.roads, b.long)) full
   not_refused PlacesFull h = h
   not_refused NoPlace h = h
@@ -72,7 +66,7 @@ module _ (n : ℕ) (d : Draft) (t : List Road) (low : n < 7) (b : Begun n d t) w
   laid : (r : Result ℕ DraftFault) (d' : Draft) (t' : List Road) → Laid d t next.start next.end next.marks r d' t' → IsOk r × Begun (n + 1) d' t'
   laid (Ok k) d' t' (_, _, _, _, _, number, places, roads_are, set_is) =
       let whole : record { start = next.start; end = next.end; marks = next.marks; «open» = true } ≡ next =
-      (λ i. record { start = next.start; end = next.end; marks = next.marks; «open» = sym (sound_road n unread low).free i }) in
+      (λ i. record { start = next.start; end = next.end; marks = next.marks; «open» = sym (sound_road n unread low).1 i }) in
       let now_is : t' ≡ set t n next = set_is ∙ (λ i. set t ((number ∙ b.roads) i) (whole i)) in (
         refl,
         record {

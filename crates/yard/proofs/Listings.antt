@@ -23,7 +23,7 @@ use Rattle.trips.proofs.RowCounts.{unique_rows}
 use Rattle.yard.specs.Calls.{by_time, by_load, Opened, Swept}
 use Rattle.yard.specs.Network.{sweep_from}
 use Rattle.yard.specs.Table.{listed}
-use Rattle.yard.proofs.Laying.{sound_road}
+use Rattle.yard.proofs.Laying.{within_yard}
 use Rattle.yard.proofs.Sweeps.{table, time, load}
 
 module _ (k : Book Sum Limit) (roads : List Road) (rows : List (Row SumValue LimitValue)) (o : Opened k roads) where
@@ -48,12 +48,7 @@ module _ (k : Book Sum Limit) (roads : List Road) (rows : List (Row SumValue Lim
     by_roads = record {
       long = omega (arith, o.on.built.roads, ap length o.on.built.table_is);
       named = λ i d lt.
-          let s = sound_road i d (omega (arith, o.on.built.roads)) in
-          let same = ap (λ l. get_or l i d) o.on.built.table_is in
-          record {
-            starts = omega (arith, s.starts, o.on.built.places, ap (λ r. r.start) same);
-            ends = omega (arith, s.ends, o.on.built.places, ap (λ r. r.end) same);
-          };
+          within_yard k.network.places i d (get_or (roads) i d) o.on.built.places (omega (arith, o.on.built.roads)) (ap (λ l. get_or l i d) o.on.built.table_is);
     };
     by_rows = record {
       long = omega (arith, o.used);

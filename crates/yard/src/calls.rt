@@ -45,10 +45,9 @@ pub fn sweep_yard(
 pub fn row_of_yard(place: u32, index: u32) -> Result<(SumValue, LimitValue), PlannerFault>
     ensures { result ≡ read_at place index }
 {
-    let time = SumValue { total: 0 };
-    let load = LimitValue::Unlimited;
     let mut frontier = Frontier::new();
-    let mut rows = [Row::unused(time, load); 6];
+    let unused = Row::unused(SumValue { total: 0 }, LimitValue::Unlimited);
+    let mut rows = [unused; 6];
     let (book, _) = list(&mut frontier, &mut rows)?;
     let row = book.row(&rows, 0, place, index)?;
     Ok((row.first, row.second))
