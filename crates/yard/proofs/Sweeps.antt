@@ -1,6 +1,5 @@
 -- The table of the yard.
-use Rattle.std.proofs.Common.{◌≡◌, ℕ, zero, suc, Bool, true, false, ◌&&◌, List, [], ◌∷◌, refl, subst, lit<}
-use Rattle.std.proofs.lemmas.Bool.{and_parts}
+use Rattle.std.proofs.Common.{◌≡◌, ℕ, zero, suc, Bool, true, false, ◌&&◌, List, [], ◌∷◌, refl, subst, lit<, rules}
 use Rattle.criteria.specs.Limit.{limit_meaning}
 use Rattle.criteria.specs.Peak.{peak_meaning}
 use Rattle.criteria.specs.Sum.{sum_meaning}
@@ -68,10 +67,10 @@ return_pages = tested time load yard_roads 3 4 returning refl
 
 -- a test that every place passes: the four of the yard, and those behind them
 each_place : (ok : ℕ → Bool) → (ok 0 && (ok 1 && (ok 2 && ok 3))) ≡ true → ((p : ℕ) → ok (suc (suc (suc (suc p)))) ≡ true) → (p : ℕ) → ok p ≡ true
-each_place ok t rest zero = (and_parts (ok 0) (ok 1 && (ok 2 && ok 3)) t).0
-each_place ok t rest (suc zero) = (and_parts (ok 1) (ok 2 && ok 3) (and_parts (ok 0) (ok 1 && (ok 2 && ok 3)) t).1).0
-each_place ok t rest (suc (suc zero)) = (and_parts (ok 2) (ok 3) (and_parts (ok 1) (ok 2 && ok 3) (and_parts (ok 0) (ok 1 && (ok 2 && ok 3)) t).1).1).0
-each_place ok t rest (suc (suc (suc zero))) = (and_parts (ok 2) (ok 3) (and_parts (ok 1) (ok 2 && ok 3) (and_parts (ok 0) (ok 1 && (ok 2 && ok 3)) t).1).1).1
+each_place ok t rest zero = search rules
+each_place ok t rest (suc zero) = search rules
+each_place ok t rest (suc (suc zero)) = search rules
+each_place ok t rest (suc (suc (suc zero))) = search rules
 each_place ok t rest (suc (suc (suc (suc p)))) = rest p
 
 -- what the sweeps from places 0 and 3 in series list at each place

@@ -1,8 +1,8 @@
 -- A computed test that trips, listed by their roads' numbers, make the pages of a sweep.
-use Rattle.std.proofs.Common.{◌≡◌, ℕ, zero, suc, ◌+◌, Bool, true, not, ◌&&◌, ◌||◌, eqb, ltb, List, [], ◌∷◌, map, length, get_or, sym, refl, ⊎_elim, arith}
+use Rattle.std.proofs.Common.{◌≡◌, ℕ, zero, suc, ◌+◌, Bool, true, not, ◌&&◌, ◌||◌, eqb, ltb, List, [], ◌∷◌, map, length, get_or, sym, refl, ⊎_elim, rules, arith}
 use Rattle.std.proofs.lemmas.List.{get_or_default}
 use Rattle.std.specs.List.{list_all, list_any}
-use Rattle.std.proofs.lemmas.Bool.{and_parts, or_cases, not-true, both_ways, ltb-true, eqb-true}
+use Rattle.std.proofs.lemmas.Bool.{and_parts, or_cases, not-true, both_ways}
 use Rattle.criteria.specs.Covers.{Covers, Precedes}
 use Rattle.criteria.specs.Meaning.{Meaning}
 use Rattle.roads.proofs.Changes.{unread}
@@ -30,14 +30,12 @@ leads roads s [] e = eqb s e
 leads roads s (k ∷ ks) e = (ltb k (length roads) && (road_of_lem roads k).«open») && (eqb (road_of_lem roads k).start s && leads roads (road_of_lem roads k).end ks e)
 
 leads_drives : (roads : List Road) (s : ℕ) (ks : List ℕ) (e : ℕ) → leads roads s ks e ≡ true → Drives roads s (uses roads ks) e
-leads_drives roads s [] e t = eqb-true s e t
+leads_drives roads s [] e t = search rules
 leads_drives roads s (k ∷ ks) e t =
     let r = road_of_lem roads k in
-    let (here, there) = and_parts (ltb k (length roads) && r.«open») (eqb r.start s && leads roads r.end ks e) t in
-    let (low, free) = and_parts (ltb k (length roads)) r.«open» here in
-    let (starts, rest) = and_parts (eqb r.start s) (leads roads r.end ks e) there in
-    let within = ltb-true k (length roads) low in
-    (r, (record { numbered = (within, λ d. get_or_default roads k d unread within); free = free; same = refl; starts = eqb-true r.start s starts }, leads_drives roads r.end ks e rest))
+    let rest = leads_drives roads r.end ks e in
+    let same = get_or_default roads k in
+    search rules
 
 module _ {V W : Type 0} {a : Meaning V} {b : Meaning W} {ta : V → V → Bool} {tb : W → W → Bool} (ja : Judge a ta) (jb : Judge b tb) where
   -- whether a pair covers another
@@ -45,23 +43,14 @@ module _ {V W : Type 0} {a : Meaning V} {b : Meaning W} {ta : V → V → Bool} 
   covers p q = ta p.0 q.0 && tb p.1 q.1
 
   pub covers_yes : (p q : V × W) → covers p q ≡ true → Covers a b p q
-  covers_yes p q t =
-      let (first, second) = and_parts (ta p.0 q.0) (tb p.1 q.1) t in
-      record { first = ja.yes p.0 q.0 first; second = jb.yes p.1 q.1 second }
+  covers_yes p q t = search (rules, ja.yes, jb.yes)
 
   -- whether a pair stands before another
   abbrev pub precedes : V × W → V × W → Bool
   precedes p q = covers (p.0, q.1) (q.0, p.1) && (not (ta q.0 p.0) && not (tb p.1 q.1))
 
   pub precedes_yes : (p q : V × W) → precedes p q ≡ true → Precedes a b p q
-  precedes_yes p q t =
-      let (better, apart) = and_parts (covers (p.0, q.1) (q.0, p.1)) (not (ta q.0 p.0) && not (tb p.1 q.1)) t in
-      let (first, second) = and_parts (not (ta q.0 p.0)) (not (tb p.1 q.1)) apart in
-      let c = covers_yes (p.0, q.1) (q.0, p.1) better in
-      record {
-        first = record { better = c.first; apart = ja.no q.0 p.0 (not-true (ta q.0 p.0) first) };
-        second = record { better = c.second; apart = jb.no p.1 q.1 (not-true (tb p.1 q.1) second) };
-      }
+  precedes_yes p q t = search (rules, ja.yes, jb.yes, ja.no, jb.no)
 
   -- whether one of the pairs covers x
   abbrev pub covered : List (V × W) → V × W → Bool
@@ -122,8 +111,8 @@ module _ {V W : Type 0} {a : Meaning V} {b : Meaning W} {ta : V → V → Bool} 
     -- a pair of the list is that of one of the trips
     value_at : (trips : List (List ℕ)) (i : ℕ) (x : V × W) → At (map value_of trips) i x → (ks : List ℕ) × (At trips i ks × (x ≡ value_of ks))
     value_at [] i x (h, e) = absurd (omega arith)
-    value_at (ks ∷ trips) zero x (h, e) = (ks, ((omega arith, λ d. refl), sym (e x)))
-    value_at (ks ∷ trips) (suc i) x (h, e) = let (js, ((low, f), is)) = value_at trips i x (omega arith, e) in (js, ((omega arith, f), is))
+    value_at (ks ∷ trips) zero x (h, e) = (ks, (search rules, sym (e x)))
+    value_at (ks ∷ trips) (suc i) x (h, e) = let (js, (at, is)) = value_at trips i x (omega arith, e) in (js, (search rules, is))
 
     -- then they do
     pub tested : (places : ℕ) (trips : List (List (List ℕ))) → test trips ≡ true → (p : ℕ) → Page a b (swept places roads origin) p (page trips p)
