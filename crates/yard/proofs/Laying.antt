@@ -1,15 +1,13 @@
 -- The yard's roads are laid one after the other, and no call is refused.
-use Rattle.std.proofs.Common.{◌≡◌, ℕ, ◌+◌, ◌<◌, ◌≤◌, Bool, true, ◌&&◌, ltb, List, [], ◌∷◌, ◌++◌, length, map, get_or, take, set, Ok, Err, Result, sym, refl, ap, ◌∙◌, subst, ⊎_elim, arith, length-set}
+use Rattle.std.proofs.Common.{◌≡◌, ℕ, ◌+◌, ◌<◌, ◌≤◌, Bool, true, ◌&&◌, ltb, List, [], ◌∷◌, ◌++◌, length, map, get_or, take, set, Ok, Err, Result, sym, refl, ap, ◌∙◌, subst, rules, arith, length-set}
 use Rattle.std.specs.Result.{IsOk}
 use Rattle.std.proofs.lemmas.List.{get_or-map, get_or-take, get_or_default, take_more, take_more_set, take_all}
-use Rattle.std.proofs.lemmas.Bool.{and_parts, ltb-true}
 use Rattle.roads.proofs.Changes.{unread}
 use Rattle.roads.specs.Drafts.{Serving, LayingRefused, Laid, ClosingRefused, Closed}
 use Rattle.roads.specs.Tables.{Within, opened}
 use Rattle.roads.specs.declared.draft.Draft.{Draft}
 use Rattle.roads.specs.declared.draft.calls.Unclosed.{Unclosed}
 use Rattle.roads.specs.declared.fault.DraftFault.{DraftFault}
-use Rattle.roads.specs.declared.fault.DraftFault.TheVariants.{UnknownPlace, PlacesFull, RoadsFull, NoPlace, ForeignTable}
 use Rattle.roads.specs.declared.network.Network.{Network}
 use Rattle.roads.specs.declared.road.Road.{Road}
 use Rattle.yard.specs.Building.{Begun, Built}
@@ -25,9 +23,7 @@ sound_road : (k : ℕ) (d : Road) → k < 7 → Within 4 (get_or yard_roads k d)
 sound_road k d lt =
     let r = get_or yard_roads k d in
     let t = every_at sound yard_roads refl k r (lt, λ e. get_or_default yard_roads k e d lt) in
-    let (both, free) = and_parts (ltb r.start 4 && ltb r.end 4) r.«open» t in
-    let (start, end) = and_parts (ltb r.start 4) (ltb r.end 4) both in
-    (record { starts = ltb-true r.start 4 start; ends = ltb-true r.end 4 end }, free)
+    search rules
 
 -- a road that is the yard's names places that exist, where there are four
 pub within_yard : (n k : ℕ) (d r : Road) → n ≡ 4 → k < 7 → r ≡ get_or yard_roads k d → Within n r
@@ -54,13 +50,10 @@ module _ (n : ℕ) (d : Draft) (t : List Road) (low : n < 7) (b : Begun n d t) w
 
   -- it is not refused
   not_refused : (f : DraftFault) → LayingRefused d t next.start next.end f → ⊥
-  not_refused ForeignTable h = h (begun_serves n d t (omega (arith, low)) b)
-  not_refused UnknownPlace (_, far) =
-      let w = within_yard d.places n unread next b.places low refl in
-      ⊎_elim (λ h. omega (arith, w.starts)) (λ h. omega (arith, w.ends)) far
-  not_refused RoadsFull (_, _, _, full) = ⊎_elim (λ h. omega (arith, low, b.roads)) (λ h. omega (arith, low, b.roads, b.long)) full
-  not_refused PlacesFull h = h
-  not_refused NoPlace h = h
+  not_refused f h =
+      let serves = begun_serves n d t (omega (arith, low)) b in
+      let named = within_yard d.places n unread next b.places low refl in
+      search rules
 
   -- and once it is laid there is one more
   laid : (r : Result ℕ DraftFault) (d' : Draft) (t' : List Road) → Laid d t next.start next.end next.marks r d' t' → IsOk r × Begun (n + 1) d' t'
@@ -89,11 +82,9 @@ module _ (n : ℕ) (d : Draft) (t : List Road) (low : n < 7) (b : Begun n d t) w
 module _ (d : Draft) (t t' : List Road) (b : Begun 7 d t) where
   -- a draft with all the roads is not refused when it is closed
   unrefused : (f : DraftFault) → ClosingRefused d t f → ⊥
-  unrefused ForeignTable h = h (begun_serves 7 d t (omega arith) b)
-  unrefused NoPlace (_, none) = omega (arith, b.places)
-  unrefused UnknownPlace h = h
-  unrefused PlacesFull h = h
-  unrefused RoadsFull h = h
+  unrefused f h =
+      let serves = begun_serves 7 d t (omega arith) b in
+      search rules
 
   pub closes : (r : Result Network Unclosed) → Closed d t r t' → IsOk r
   closes (Ok n) h = refl

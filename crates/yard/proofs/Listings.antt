@@ -1,11 +1,11 @@
 -- What a sweep of a book on the yard answers.
-use Rattle.std.proofs.Common.{◌≡◌, ℕ, ◌<◌, List, map, length, get_or, take, Ok, sym, refl, ap, ◌∙◌, subst, arith}
+use Rattle.std.proofs.Common.{◌≡◌, ℕ, ◌<◌, List, map, length, get_or, take, Ok, sym, refl, ap, ◌∙◌, subst, rules, arith}
 use Rattle.book.specs.Reading.{Serving, rows_there}
 use Rattle.book.specs.Sweeping.{Served, Entered, SweepRefused, unused}
 use Rattle.book.specs.declared.added.Added.{Added}
 use Rattle.book.specs.declared.book.Book.{Book}
 use Rattle.book.specs.declared.fault.PlannerFault.{PlannerFault}
-use Rattle.book.specs.declared.fault.PlannerFault.TheVariants.{NoSuchPlace, NoSuchSheet, NoSuchRow, SheetsFull, RowsFull, NoTrip, ForeignTable}
+use Rattle.book.specs.declared.fault.PlannerFault.TheVariants.{RowsFull}
 use Rattle.criteria.specs.Limit.{limit_meaning}
 use Rattle.criteria.specs.Sum.{sum_meaning}
 use Rattle.criteria.specs.declared.limit.Limit.{Limit}
@@ -58,15 +58,10 @@ module _ (k : Book Sum Limit) (roads : List Road) (rows : List (Row SumValue Lim
 
   -- a sweep is refused only where there are fewer than 6 rows
   pub refused : (f : PlannerFault) → SweepRefused (by_time k) (by_load k) k roads rows 0 f → (length rows < 6) × (f ≡ RowsFull)
-  refused ForeignTable h = absurd (h serves)
-  refused NoSuchPlace (_, far) = absurd (omega (arith, o.on.built.places))
-  refused SheetsFull (_, _, full) = absurd (omega (arith, o.count))
   refused RowsFull (_, _, _, _, few) =
       let less = moved (λ i j n P. (m : ℕ) → Rows (sum_meaning i) (limit_meaning j) n P m → unused k rows < m) few 6 table.six in
       (omega (arith, o.used), refl)
-  refused NoSuchSheet h = absurd h
-  refused NoSuchRow h = absurd h
-  refused NoTrip h = absurd h
+  refused f h = let serving = serves in search rules
 
   -- an accepted one adds sheet 0 with its 6 rows, which are those of the table
   module _ (k' : Book Sum Limit) (rows' : List (Row SumValue LimitValue)) (added : Added) (h : Entered (by_time k) (by_load k) k k' roads rows rows' 0 added) where
