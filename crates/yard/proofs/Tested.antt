@@ -1,8 +1,8 @@
 -- A computed test that trips, listed by their roads' numbers, make the pages of a sweep.
-use Rattle.std.proofs.Common.{◌≡◌, ℕ, zero, suc, ◌+◌, Bool, true, not, ◌&&◌, ◌||◌, eqb, ltb, List, [], ◌∷◌, map, length, get_or, sym, refl, ⊎_elim, rules, arith}
+use Rattle.std.proofs.Common.{◌≡◌, ℕ, zero, suc, ◌+◌, Bool, true, not, ◌&&◌, ◌||◌, eqb, ltb, List, [], ◌∷◌, map, length, get_or, sym, refl, rules, arith}
 use Rattle.std.proofs.lemmas.List.{get_or_default}
 use Rattle.std.specs.List.{list_all, list_any}
-use Rattle.std.proofs.lemmas.Bool.{and_parts, or_cases, not-true, both_ways}
+use Rattle.std.proofs.lemmas.Bool.{and_parts}
 use Rattle.criteria.specs.Covers.{Covers, Precedes}
 use Rattle.criteria.specs.Meaning.{Meaning}
 use Rattle.roads.proofs.Changes.{unread}
@@ -82,10 +82,9 @@ module _ {V W : Type 0} {a : Meaning V} {b : Meaning W} {ta : V → V → Bool} 
         record {
           none = covered_yes (pages origin) (a.unit, b.unit) start;
           more = λ k r at free i x there.
-              ⊎_elim
-              (λ shut. absurd (both_ways r.«open» (not-true r.«open» shut) free))
-              (λ on. covered_yes (pages r.end) (longer a b x r.marks) (every_at (λ y. covered (pages r.end) (longer a b y r.marks)) (pages r.start) on i x there))
-              (or_cases (not r.«open») (list_all (λ y. covered (pages r.end) (longer a b y r.marks)) (pages r.start)) (every_at (closed_by pages) roads steps k r at));
+              let step = every_at (closed_by pages) roads steps k r at in
+              let on : list_all (λ y. covered (pages r.end) (longer a b y r.marks)) (pages r.start) ≡ true = search rules in
+              covered_yes (pages r.end) (longer a b x r.marks) (every_at (λ y. covered (pages r.end) (longer a b y r.marks)) (pages r.start) on i x there);
         }
 
     -- whether trips lead to a place, with their pairs in the order of a page
@@ -103,10 +102,11 @@ module _ {V W : Type 0} {a : Meaning V} {b : Meaning W} {ta : V → V → Bool} 
 
     listed_place : (trips : List (List (List ℕ))) (p k : ℕ) → listed_from p trips ≡ true → listed_at (p + k) (get_or trips k []) ≡ true
     listed_place [] p k t = refl
-    listed_place (ks ∷ trips) p zero t = let e : p + 0 ≡ p = omega arith in rw e (and_parts (listed_at p ks) (listed_from (suc p) trips) t).0
+    listed_place (ks ∷ trips) p zero t = search rules
     listed_place (ks ∷ trips) p (suc k) t =
+        let behind = listed_place trips (suc p) k in
         let e : p + suc k ≡ suc p + k = omega arith in
-        rw e (listed_place trips (suc p) k (and_parts (listed_at p ks) (listed_from (suc p) trips) t).1)
+        rw e search rules
 
     -- a pair of the list is that of one of the trips
     value_at : (trips : List (List ℕ)) (i : ℕ) (x : V × W) → At (map value_of trips) i x → (ks : List ℕ) × (At trips i ks × (x ≡ value_of ks))

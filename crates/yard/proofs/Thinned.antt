@@ -1,5 +1,5 @@
 -- Computed tests that pairs are what is left of the joins of two lists, and of two lists together.
-use Rattle.std.proofs.Common.{◌≡◌, ℕ, Bool, true, ◌&&◌, ◌||◌, List, sym, subst, inl, inr, ⊎_elim}
+use Rattle.std.proofs.Common.{◌≡◌, ℕ, Bool, true, ◌&&◌, ◌||◌, List, sym, subst, inl, inr, ⊎_elim, rules}
 use Rattle.std.specs.List.{list_all, list_any}
 use Rattle.std.proofs.lemmas.Bool.{and_parts, or_cases}
 use Rattle.criteria.specs.Meaning.{Meaning}
@@ -18,9 +18,7 @@ module _ {V W : Type 0} {a : Meaning V} {b : Meaning W} {ta : V → V → Bool} 
   same p q = covers ja jb p q && covers ja jb q p
 
   same_yes : (p q : V × W) → same p q ≡ true → p ≡ q
-  same_yes p q t =
-      let (there, back) = and_parts (covers ja jb p q) (covers ja jb q p) t in
-      covers_both ja.laws jb.laws p q (covers_yes ja jb p q there) (covers_yes ja jb q p back)
+  same_yes p q t = search (rules, covers_both ja.laws jb.laws, covers_yes ja jb)
 
   -- whether each pair is a candidate, all candidates are covered, and the pairs stand in order
   abbrev thin : (V × W → Bool) → Bool → List (V × W) → Bool
