@@ -1,11 +1,7 @@
 -- What reading a row of the yard's sheet answers.
-use Rattle.std.proofs.Common.{◌≡◌, ℕ, ◌<◌, ◌≤◌, true, cond, ltb, List, length, get_or, is_err, IsErrAnd, Ok, Err, Result, sym, ap, ◌∙◌, subst, arith}
-use lib.ListN.{length-map}
-use Rattle.std.proofs.lemmas.Bool.{false≢true, lt-ltb, le-ltb, cond-true, cond-false}
-use Rattle.book.specs.Reading.{rows_there, sheet_of, RowThere, RowRefused}
+use Rattle.std.proofs.Common.{◌≡◌, ℕ, List, Ok, subst, rules}
+use Rattle.book.specs.Reading.{sheet_of, RowThere}
 use Rattle.book.specs.declared.book.Book.{Book}
-use Rattle.book.specs.declared.fault.PlannerFault.{PlannerFault}
-use Rattle.book.specs.declared.fault.PlannerFault.TheVariants.{NoSuchPlace, NoSuchSheet, NoSuchRow, SheetsFull, RowsFull, NoTrip, ForeignTable}
 use Rattle.criteria.specs.declared.limit.Limit.{Limit}
 use Rattle.criteria.specs.declared.limit.LimitValue.{LimitValue}
 use Rattle.criteria.specs.declared.sum.Sum.{Sum}
@@ -17,31 +13,10 @@ use Rattle.trips.specs.Elements.{At}
 use Rattle.yard.specs.Calls.{by_time, by_load, Listing, read_at}
 use Rattle.yard.specs.Table.{timed, listed}
 
--- what is read at a place of the yard
-read_there : (p i : ℕ) → p < 4 → read_at p i ≡ cond (ltb i (length (listed p))) (Ok (get_or (listed p) i (timed 0 0))) (Err NoSuchRow)
-read_there p i lt = cond-true (ltb p 4) _ _ (lt-ltb p 4 lt)
-
 module _ (k : Book Sum Limit) (rows : List (Row SumValue LimitValue)) (l : Listing k rows) (p i : ℕ) where
   -- a row of the sheet is the one that the table lists
   pub found : (r : Row SumValue LimitValue) → RowThere (by_time k) (by_load k) k rows 0 p i r → Ok (pair_of r) ≡ read_at p i
   found r (readable, at) =
-      let (low, is) : At (listed p) i (pair_of r) = subst (λ o. At o i (pair_of r)) (l.lists p) (pair_stands p (rows_of (sheet_of k 0) rows) i r at) in
-      let here : p < 4 = omega (arith, readable.place, l.places) in
-      ap Ok (sym (is (timed 0 0))) ∙ sym (cond-true (ltb i (length (listed p))) _ _ (lt-ltb i (length (listed p)) low)) ∙ sym (read_there p i here)
-
-  -- a refusal is that of a place or of a row that the table has not
-  refused : (f : PlannerFault) → RowRefused (by_time k) (by_load k) k rows 0 p i f → Err f ≡ read_at p i
-  refused ForeignTable h = absurd (h l.serving)
-  refused NoSuchSheet (_, none) = absurd (omega (arith, l.count))
-  refused NoSuchPlace (_, _, far) = sym (cond-false (ltb p 4) _ _ (le-ltb p 4 (omega (arith, l.places))))
-  refused NoSuchRow (readable, short) =
-      let here : p < 4 = omega (arith, readable.place, l.places) in
-      let few : length (listed p) ≤ i = omega (arith, ap length (l.lists p), length-map (rows_there k rows 0 p) pair_of) in
-      sym (cond-false (ltb i (length (listed p))) _ _ (le-ltb i (length (listed p)) few)) ∙ sym (read_there p i here)
-  refused SheetsFull h = absurd h
-  refused RowsFull h = absurd h
-  refused NoTrip h = absurd h
-
-  pub turned_back : (r : Result (SumValue × LimitValue) PlannerFault) (f : PlannerFault) → is_err r ≡ true → IsErrAnd r (λ q. q ≡ f) → RowRefused (by_time k) (by_load k) k rows 0 p i f → r ≡ read_at p i
-  turned_back (Ok x) f e h w = absurd (false≢true e)
-  turned_back (Err q) f e h w = ap Err h ∙ refused f w
+      let stands : At (listed p) i (pair_of r) = subst (λ o. At o i (pair_of r)) (l.lists p) (pair_stands p (rows_of (sheet_of k 0) rows) i r at) in
+      let is = stands.1 (timed 0 0) in
+      search rules

@@ -1,12 +1,11 @@
 -- What a sweep of a book on the yard answers.
-use Rattle.std.proofs.Common.{◌≡◌, ℕ, ◌<◌, true, List, map, length, get_or, take, is_err, IsErrAnd, Ok, Err, Result, sym, refl, ap, ◌∙◌, subst, arith}
-use Rattle.std.proofs.lemmas.Bool.{false≢true}
+use Rattle.std.proofs.Common.{◌≡◌, ℕ, ◌<◌, List, map, length, get_or, take, Ok, sym, refl, ap, ◌∙◌, subst, rules, arith}
 use Rattle.book.specs.Reading.{Serving, rows_there}
 use Rattle.book.specs.Sweeping.{Served, Entered, SweepRefused, unused}
 use Rattle.book.specs.declared.added.Added.{Added}
 use Rattle.book.specs.declared.book.Book.{Book}
 use Rattle.book.specs.declared.fault.PlannerFault.{PlannerFault}
-use Rattle.book.specs.declared.fault.PlannerFault.TheVariants.{NoSuchPlace, NoSuchSheet, NoSuchRow, SheetsFull, RowsFull, NoTrip, ForeignTable}
+use Rattle.book.specs.declared.fault.PlannerFault.TheVariants.{RowsFull}
 use Rattle.criteria.specs.Limit.{limit_meaning}
 use Rattle.criteria.specs.Sum.{sum_meaning}
 use Rattle.criteria.specs.declared.limit.Limit.{Limit}
@@ -24,7 +23,7 @@ use Rattle.trips.proofs.RowCounts.{unique_rows}
 use Rattle.yard.specs.Calls.{by_time, by_load, Opened, Swept}
 use Rattle.yard.specs.Network.{sweep_from}
 use Rattle.yard.specs.Table.{listed}
-use Rattle.yard.proofs.Laying.{sound_road}
+use Rattle.yard.proofs.Laying.{within_yard}
 use Rattle.yard.proofs.Sweeps.{table, time, load}
 
 module _ (k : Book Sum Limit) (roads : List Road) (rows : List (Row SumValue LimitValue)) (o : Opened k roads) where
@@ -49,12 +48,7 @@ module _ (k : Book Sum Limit) (roads : List Road) (rows : List (Row SumValue Lim
     by_roads = record {
       long = omega (arith, o.on.built.roads, ap length o.on.built.table_is);
       named = λ i d lt.
-          let s = sound_road i d (omega (arith, o.on.built.roads)) in
-          let same = ap (λ l. get_or l i d) o.on.built.table_is in
-          record {
-            starts = omega (arith, s.starts, o.on.built.places, ap (λ r. r.start) same);
-            ends = omega (arith, s.ends, o.on.built.places, ap (λ r. r.end) same);
-          };
+          within_yard k.network.places i d (get_or (roads) i d) o.on.built.places (omega (arith, o.on.built.roads)) (ap (λ l. get_or l i d) o.on.built.table_is);
     };
     by_rows = record {
       long = omega (arith, o.used);
@@ -63,20 +57,11 @@ module _ (k : Book Sum Limit) (roads : List Road) (rows : List (Row SumValue Lim
   }
 
   -- a sweep is refused only where there are fewer than 6 rows
-  refused : (f : PlannerFault) → SweepRefused (by_time k) (by_load k) k roads rows 0 f → (length rows < 6) × (f ≡ RowsFull)
-  refused ForeignTable h = absurd (h serves)
-  refused NoSuchPlace (_, far) = absurd (omega (arith, o.on.built.places))
-  refused SheetsFull (_, _, full) = absurd (omega (arith, o.count))
+  pub refused : (f : PlannerFault) → SweepRefused (by_time k) (by_load k) k roads rows 0 f → (length rows < 6) × (f ≡ RowsFull)
   refused RowsFull (_, _, _, _, few) =
       let less = moved (λ i j n P. (m : ℕ) → Rows (sum_meaning i) (limit_meaning j) n P m → unused k rows < m) few 6 table.six in
       (omega (arith, o.used), refl)
-  refused NoSuchSheet h = absurd h
-  refused NoSuchRow h = absurd h
-  refused NoTrip h = absurd h
-
-  pub turned_down : (rows' : List (Row SumValue LimitValue)) (r : Result (Book Sum Limit × Added) PlannerFault) (f : PlannerFault) → is_err r ≡ true → IsErrAnd r (λ p. p ≡ f) → SweepRefused (by_time k) (by_load k) k roads rows 0 f → Swept rows rows' r
-  turned_down rows' (Ok given) f e h w = absurd (false≢true e)
-  turned_down rows' (Err p) f e h w = let (few, is) = refused f w in (few, h ∙ is)
+  refused f h = let serving = serves in search rules
 
   -- an accepted one adds sheet 0 with its 6 rows, which are those of the table
   module _ (k' : Book Sum Limit) (rows' : List (Row SumValue LimitValue)) (added : Added) (h : Entered (by_time k) (by_load k) k k' roads rows rows' 0 added) where

@@ -1,6 +1,5 @@
 -- The table of the yard.
-use Rattle.std.proofs.Common.{◌≡◌, ℕ, zero, suc, Bool, true, false, ◌&&◌, List, [], ◌∷◌, refl, subst, lit<}
-use Rattle.std.proofs.lemmas.Bool.{and_parts}
+use Rattle.std.proofs.Common.{◌≡◌, ℕ, zero, suc, Bool, true, false, ◌&&◌, List, [], ◌∷◌, refl, subst, lit<, rules}
 use Rattle.criteria.specs.Limit.{limit_meaning}
 use Rattle.criteria.specs.Peak.{peak_meaning}
 use Rattle.criteria.specs.Sum.{sum_meaning}
@@ -10,24 +9,24 @@ use Rattle.trips.specs.Pages.{Page}
 use Rattle.trips.proofs.Thinned.{series_page, pool_page}
 use Rattle.yard.specs.Network.{yard_roads, roads_with, sweep_from, round_trip, all_together}
 use Rattle.yard.specs.Table.{timed, listed, Table}
-use Rattle.yard.proofs.Judges.{Judge, sum_judge, limit_judge, peak_judge}
+use Rattle.yard.proofs.Judges.{Judge, sum_test, sum_judge, limit_test, limit_judge, peak_test, peak_judge}
 use Rattle.yard.proofs.Tested.{page, tested}
 use Rattle.yard.proofs.Thinned.{joins_test, joins_thinned, both_test, both_thinned}
 
 -- time is the sum of mark 0
-abbrev pub time : Judge (sum_meaning 0)
+pub time : Judge (sum_meaning 0) sum_test
 time = sum_judge 0 (lit< tt)
 
 -- cost is the sum of mark 1
-abbrev cost : Judge (sum_meaning 1)
+cost : Judge (sum_meaning 1) sum_test
 cost = sum_judge 1 (lit< tt)
 
 -- load is the limit of mark 2
-abbrev pub load : Judge (limit_meaning 2)
+pub load : Judge (limit_meaning 2) limit_test
 load = limit_judge 2
 
 -- grade is the peak of mark 3
-abbrev grade : Judge (peak_meaning 3)
+grade : Judge (peak_meaning 3) peak_test
 grade = peak_judge 3
 
 -- a trip for each pair, by place: by time and load from place 0
@@ -68,10 +67,10 @@ return_pages = tested time load yard_roads 3 4 returning refl
 
 -- a test that every place passes: the four of the yard, and those behind them
 each_place : (ok : ℕ → Bool) → (ok 0 && (ok 1 && (ok 2 && ok 3))) ≡ true → ((p : ℕ) → ok (suc (suc (suc (suc p)))) ≡ true) → (p : ℕ) → ok p ≡ true
-each_place ok t rest zero = (and_parts (ok 0) (ok 1 && (ok 2 && ok 3)) t).0
-each_place ok t rest (suc zero) = (and_parts (ok 1) (ok 2 && ok 3) (and_parts (ok 0) (ok 1 && (ok 2 && ok 3)) t).1).0
-each_place ok t rest (suc (suc zero)) = (and_parts (ok 2) (ok 3) (and_parts (ok 1) (ok 2 && ok 3) (and_parts (ok 0) (ok 1 && (ok 2 && ok 3)) t).1).1).0
-each_place ok t rest (suc (suc (suc zero))) = (and_parts (ok 2) (ok 3) (and_parts (ok 1) (ok 2 && ok 3) (and_parts (ok 0) (ok 1 && (ok 2 && ok 3)) t).1).1).1
+each_place ok t rest zero = search rules
+each_place ok t rest (suc zero) = search rules
+each_place ok t rest (suc (suc zero)) = search rules
+each_place ok t rest (suc (suc (suc zero))) = search rules
 each_place ok t rest (suc (suc (suc (suc p)))) = rest p
 
 -- what the sweeps from places 0 and 3 in series list at each place

@@ -1,7 +1,8 @@
 -- A computed test that trips, listed by their roads' numbers, make the pages of a sweep.
-use Rattle.std.proofs.Common.{◌≡◌, ℕ, zero, suc, ◌+◌, Bool, true, not, ◌&&◌, ◌||◌, eqb, ltb, List, [], ◌∷◌, map, length, get_or, sym, refl, ⊎_elim, arith}
+use Rattle.std.proofs.Common.{◌≡◌, ℕ, zero, suc, ◌+◌, Bool, true, not, ◌&&◌, ◌||◌, eqb, ltb, List, [], ◌∷◌, map, length, get_or, sym, refl, rules, arith}
 use Rattle.std.proofs.lemmas.List.{get_or_default}
-use Rattle.std.proofs.lemmas.Bool.{and_parts, or_cases, not-true, both_ways, ltb-true, eqb-true}
+use Rattle.std.specs.List.{list_all, list_any}
+use Rattle.std.proofs.lemmas.Bool.{and_parts}
 use Rattle.criteria.specs.Covers.{Covers, Precedes}
 use Rattle.criteria.specs.Meaning.{Meaning}
 use Rattle.roads.proofs.Changes.{unread}
@@ -12,7 +13,7 @@ use Rattle.trips.specs.Plans.{Drives, swept}
 use Rattle.trips.specs.Trips.{Use, onto, worth}
 use Rattle.yard.proofs.Closed.{Covered, longer, Closed, closed_whole}
 use Rattle.yard.proofs.Judges.{Judge}
-use Rattle.yard.proofs.Lists.{every, some, sorted, every_at, some_at, sorted_at}
+use Rattle.yard.proofs.Lists.{sorted, every_at, some_at, sorted_at}
 
 -- road number k of the table
 abbrev road_of_lem : List Road → ℕ → Road
@@ -29,42 +30,31 @@ leads roads s [] e = eqb s e
 leads roads s (k ∷ ks) e = (ltb k (length roads) && (road_of_lem roads k).«open») && (eqb (road_of_lem roads k).start s && leads roads (road_of_lem roads k).end ks e)
 
 leads_drives : (roads : List Road) (s : ℕ) (ks : List ℕ) (e : ℕ) → leads roads s ks e ≡ true → Drives roads s (uses roads ks) e
-leads_drives roads s [] e t = eqb-true s e t
+leads_drives roads s [] e t = search rules
 leads_drives roads s (k ∷ ks) e t =
     let r = road_of_lem roads k in
-    let (here, there) = and_parts (ltb k (length roads) && r.«open») (eqb r.start s && leads roads r.end ks e) t in
-    let (low, free) = and_parts (ltb k (length roads)) r.«open» here in
-    let (starts, rest) = and_parts (eqb r.start s) (leads roads r.end ks e) there in
-    let within = ltb-true k (length roads) low in
-    (r, (record { numbered = (within, λ d. get_or_default roads k d unread within); free = free; same = refl; starts = eqb-true r.start s starts }, leads_drives roads r.end ks e rest))
+    let rest = leads_drives roads r.end ks e in
+    let same = get_or_default roads k in
+    search rules
 
-module _ {V W : Type 0} {a : Meaning V} {b : Meaning W} (ja : Judge a) (jb : Judge b) where
+module _ {V W : Type 0} {a : Meaning V} {b : Meaning W} {ta : V → V → Bool} {tb : W → W → Bool} (ja : Judge a ta) (jb : Judge b tb) where
   -- whether a pair covers another
   abbrev pub covers : V × W → V × W → Bool
-  covers p q = ja.test p.0 q.0 && jb.test p.1 q.1
+  covers p q = ta p.0 q.0 && tb p.1 q.1
 
   pub covers_yes : (p q : V × W) → covers p q ≡ true → Covers a b p q
-  covers_yes p q t =
-      let (first, second) = and_parts (ja.test p.0 q.0) (jb.test p.1 q.1) t in
-      record { first = ja.yes p.0 q.0 first; second = jb.yes p.1 q.1 second }
+  covers_yes p q t = search (rules, ja.yes, jb.yes)
 
   -- whether a pair stands before another
   abbrev pub precedes : V × W → V × W → Bool
-  precedes p q = covers (p.0, q.1) (q.0, p.1) && (not (ja.test q.0 p.0) && not (jb.test p.1 q.1))
+  precedes p q = covers (p.0, q.1) (q.0, p.1) && (not (ta q.0 p.0) && not (tb p.1 q.1))
 
   pub precedes_yes : (p q : V × W) → precedes p q ≡ true → Precedes a b p q
-  precedes_yes p q t =
-      let (better, apart) = and_parts (covers (p.0, q.1) (q.0, p.1)) (not (ja.test q.0 p.0) && not (jb.test p.1 q.1)) t in
-      let (first, second) = and_parts (not (ja.test q.0 p.0)) (not (jb.test p.1 q.1)) apart in
-      let c = covers_yes (p.0, q.1) (q.0, p.1) better in
-      record {
-        first = record { better = c.first; apart = ja.no q.0 p.0 (not-true (ja.test q.0 p.0) first) };
-        second = record { better = c.second; apart = jb.no p.1 q.1 (not-true (jb.test p.1 q.1) second) };
-      }
+  precedes_yes p q t = search (rules, ja.yes, jb.yes, ja.no, jb.no)
 
   -- whether one of the pairs covers x
   abbrev pub covered : List (V × W) → V × W → Bool
-  covered pairs x = some (λ p. covers p x) pairs
+  covered pairs x = list_any (λ p. covers p x) pairs
 
   pub covered_yes : (pairs : List (V × W)) (x : V × W) → covered pairs x ≡ true → Covered a b pairs x
   covered_yes pairs x t = let (i, (p, (at, over))) = some_at (λ p. covers p x) pairs t in (i, (p, (at, covers_yes p x over)))
@@ -80,27 +70,26 @@ module _ {V W : Type 0} {a : Meaning V} {b : Meaning W} (ja : Judge a) (jb : Jud
 
     -- whether a road, if it is open, leads no pair to one that is not covered
     abbrev closed_by : (ℕ → List (V × W)) → Road → Bool
-    closed_by pages r = not r.«open» || every (λ x. covered (pages r.end) (longer a b x r.marks)) (pages r.start)
+    closed_by pages r = not r.«open» || list_all (λ x. covered (pages r.end) (longer a b x r.marks)) (pages r.start)
 
     -- whether pages are closed under one road more
     abbrev closed : (ℕ → List (V × W)) → Bool
-    closed pages = covered (pages origin) (a.unit, b.unit) && every (closed_by pages) roads
+    closed pages = covered (pages origin) (a.unit, b.unit) && list_all (closed_by pages) roads
 
     closed_yes : (pages : ℕ → List (V × W)) → closed pages ≡ true → Closed a b roads origin pages
     closed_yes pages t =
-        let (start, steps) = and_parts (covered (pages origin) (a.unit, b.unit)) (every (closed_by pages) roads) t in
+        let (start, steps) = and_parts (covered (pages origin) (a.unit, b.unit)) (list_all (closed_by pages) roads) t in
         record {
           none = covered_yes (pages origin) (a.unit, b.unit) start;
           more = λ k r at free i x there.
-              ⊎_elim
-              (λ shut. absurd (both_ways r.«open» (not-true r.«open» shut) free))
-              (λ on. covered_yes (pages r.end) (longer a b x r.marks) (every_at (λ y. covered (pages r.end) (longer a b y r.marks)) (pages r.start) on i x there))
-              (or_cases (not r.«open») (every (λ y. covered (pages r.end) (longer a b y r.marks)) (pages r.start)) (every_at (closed_by pages) roads steps k r at));
+              let step = every_at (closed_by pages) roads steps k r at in
+              let on : list_all (λ y. covered (pages r.end) (longer a b y r.marks)) (pages r.start) ≡ true = search rules in
+              covered_yes (pages r.end) (longer a b x r.marks) (every_at (λ y. covered (pages r.end) (longer a b y r.marks)) (pages r.start) on i x there);
         }
 
     -- whether trips lead to a place, with their pairs in the order of a page
     abbrev listed_at : ℕ → List (List ℕ) → Bool
-    listed_at p trips = every (λ ks. leads roads origin ks p) trips && sorted precedes (map value_of trips)
+    listed_at p trips = list_all (λ ks. leads roads origin ks p) trips && sorted precedes (map value_of trips)
 
     -- whether those listed for each place do, from place p on
     abbrev listed_from : ℕ → List (List (List ℕ)) → Bool
@@ -113,16 +102,17 @@ module _ {V W : Type 0} {a : Meaning V} {b : Meaning W} (ja : Judge a) (jb : Jud
 
     listed_place : (trips : List (List (List ℕ))) (p k : ℕ) → listed_from p trips ≡ true → listed_at (p + k) (get_or trips k []) ≡ true
     listed_place [] p k t = refl
-    listed_place (ks ∷ trips) p zero t = let e : p + 0 ≡ p = omega arith in rw e (and_parts (listed_at p ks) (listed_from (suc p) trips) t).0
+    listed_place (ks ∷ trips) p zero t = search rules
     listed_place (ks ∷ trips) p (suc k) t =
+        let behind = listed_place trips (suc p) k in
         let e : p + suc k ≡ suc p + k = omega arith in
-        rw e (listed_place trips (suc p) k (and_parts (listed_at p ks) (listed_from (suc p) trips) t).1)
+        rw e search rules
 
     -- a pair of the list is that of one of the trips
     value_at : (trips : List (List ℕ)) (i : ℕ) (x : V × W) → At (map value_of trips) i x → (ks : List ℕ) × (At trips i ks × (x ≡ value_of ks))
     value_at [] i x (h, e) = absurd (omega arith)
-    value_at (ks ∷ trips) zero x (h, e) = (ks, ((omega arith, λ d. refl), sym (e x)))
-    value_at (ks ∷ trips) (suc i) x (h, e) = let (js, ((low, f), is)) = value_at trips i x (omega arith, e) in (js, ((omega arith, f), is))
+    value_at (ks ∷ trips) zero x (h, e) = (ks, (search rules, sym (e x)))
+    value_at (ks ∷ trips) (suc i) x (h, e) = let (js, (at, is)) = value_at trips i x (omega arith, e) in (js, (search rules, is))
 
     -- then they do
     pub tested : (places : ℕ) (trips : List (List (List ℕ))) → test trips ≡ true → (p : ℕ) → Page a b (swept places roads origin) p (page trips p)
@@ -130,7 +120,7 @@ module _ {V W : Type 0} {a : Meaning V} {b : Meaning W} (ja : Judge a) (jb : Jud
     tested places trips t p =
         let (whole, lists) = and_parts (closed (page trips)) (listed_from 0 trips) t in
         let here : listed_at p (get_or trips p []) ≡ true = let e : 0 + p ≡ p = omega arith in rw e at (listed_place trips 0 p lists) in
-        let (lead, order) = and_parts (every (λ ks. leads roads origin ks p) (get_or trips p [])) (sorted precedes (page trips p)) here in
+        let (lead, order) = and_parts (list_all (λ ks. leads roads origin ks p) (get_or trips p [])) (sorted precedes (page trips p)) here in
         record {
           sound = λ i x at.
               let (ks, (there, is)) = value_at (get_or trips p []) i x at in

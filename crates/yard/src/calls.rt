@@ -1,6 +1,5 @@
-ghost use Rattle.std.specs.Prelude.{◌≡◌, length, MatchResult};
-ghost use Rattle.book.specs.Reading.{RowThere, RowRefused};
-ghost use Rattle.yard.specs.Calls.{by_time, by_load, Opened, Swept, swept_into, read_at};
+ghost use Rattle.std.specs.Prelude.{◌≡◌, length};
+ghost use Rattle.yard.specs.Calls.{Opened, Swept, swept_into, read_at};
 
 use crate::building::build;
 use book::{Added, Book, PlannerFault};
@@ -9,38 +8,24 @@ use roads::Road;
 use rows::Row;
 use sweep::Frontier;
 
-// A book on the yard, by the sum of mark 0 and the limit of mark 2.
-fn open(table: &mut [Road]) -> Result<Book<Sum, Limit>, PlannerFault>
-    requires { length table.old ≡ 7 }
-    ensures { MatchResult result (λ k. Opened k table.new) (λ _. ⊥) }
+// A book on the yard, by the sum of mark 0 and the limit of mark 2, and the table of its roads.
+fn open() -> (Book<Sum, Limit>, [Road; 7])
+    ensures { Opened result.0 result.1 }
 {
-    let Ok(network) = build(table) else {
-        return Err(PlannerFault::ForeignTable);
-    };
-    let Ok(time) = Sum::new(0) else {
-        return Err(PlannerFault::ForeignTable);
-    };
-    let Ok(load) = Limit::new(2) else {
-        return Err(PlannerFault::ForeignTable);
-    };
-    Ok(Book::open(&network, time, load))
+    let (network, table) = build();
+    let time = Sum::new(0).unwrap();
+    let load = Limit::new(2).unwrap();
+    (Book::open(&network, time, load), table)
 }
 
-// Builds the yard, opens a book on it and sweeps from place 0.
+// Opens a book on the yard and sweeps from place 0.
 fn list(
     frontier: &mut Frontier<SumValue, LimitValue>,
     rows: &mut [Row<SumValue, LimitValue>],
 ) -> Result<(Book<Sum, Limit>, Added), PlannerFault>
     ensures { Swept rows.old rows.new result }
 {
-    let unused = Road {
-        start: 0,
-        end: 0,
-        marks: [0, 0, 0, 0],
-        open: true,
-    };
-    let mut table = [unused; 7];
-    let mut book = open(&mut table)?;
+    let (mut book, table) = open();
     let added = book.sweep(frontier, &table, rows, 0)?;
     Ok((book, added))
 }
@@ -56,27 +41,14 @@ pub fn sweep_yard(
     Ok(added)
 }
 
-// The row of that index among those of sheet 0 that end at the place.
-fn look<'r>(
-    book: &Book<Sum, Limit>,
-    rows: &'r [Row<SumValue, LimitValue>],
-    place: u32,
-    index: u32,
-) -> Result<&'r Row<SumValue, LimitValue>, PlannerFault>
-    ensures { MatchResult result (λ x. RowThere (by_time book.now) (by_load book.now) book.now rows.now 0 place index x.now) (λ f. RowRefused (by_time book.now) (by_load book.now) book.now rows.now 0 place index f) }
-{
-    book.row(rows, 0, place, index)
-}
-
 // The time and the limit of the row of that index at the place, of the sweep from place 0.
 pub fn row_of_yard(place: u32, index: u32) -> Result<(SumValue, LimitValue), PlannerFault>
     ensures { result ≡ read_at place index }
 {
-    let time = SumValue { total: 0 };
-    let load = LimitValue::Unlimited;
-    let mut frontier = Frontier::new(time, load);
-    let mut rows = [Row::unused(time, load); 6];
+    let mut frontier = Frontier::new();
+    let unused = Row::unused(SumValue { total: 0 }, LimitValue::Unlimited);
+    let mut rows = [unused; 6];
     let (book, _) = list(&mut frontier, &mut rows)?;
-    let row = look(&book, &rows, place, index)?;
+    let row = book.row(&rows, 0, place, index)?;
     Ok((row.first, row.second))
 }

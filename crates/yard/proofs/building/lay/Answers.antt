@@ -1,12 +1,12 @@
-use Rattle.yard.proofs.Laying.{not_refused, laid}
+use Rattle.yard.proofs.Laying.{laid_from}
 use Rattle.yard.proofs.building.lay.Goals as goal
 
-pub returns-in_err-road : goal.returns-in_err-road
-returns-in_err-road c =
-    let l = c.loop-road in
-    absurd (not_refused c.args.roads.now c.requires.yard l.road-index l.draft l.table c.loop-road-test.true l.invariant c.in_err-road.field-0.0 c.in_err-road.ensures.0)
+pub unwrap-requires : goal.unwrap-requires
+unwrap-requires c =
+    let l = c.loop-start in
+    (laid_from l.start-index l.draft l.table c.loop-start-test.true l.invariant c.road.result c.road.new.self c.road.new.table c.road.ensures).0
 
-pub loop-road-preserved : goal.loop-road-preserved
-loop-road-preserved c =
-    let l = c.loop-road in
-    laid c.args.roads.now c.requires.yard l.road-index l.draft l.table c.loop-road-test.true l.invariant c.in_ok-road.field-0 c.road.new.self c.road.new.table c.in_ok-road.ensures
+pub loop-start-preserved : goal.loop-start-preserved
+loop-start-preserved c =
+    let l = c.loop-start in
+    (laid_from l.start-index l.draft l.table c.loop-start-test.true l.invariant c.road.result c.road.new.self c.road.new.table c.road.ensures).1

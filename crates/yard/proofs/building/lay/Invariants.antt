@@ -1,5 +1,5 @@
 use Rattle.yard.specs.Building.{Begun}
 use Rattle.yard.proofs.building.lay.Given as goal
 
-abbrev pub invariant-loop-road : goal.invariant-loop-road
-invariant-loop-road l = Begun l.road-index l.draft l.table
+abbrev pub invariant-loop-start : goal.invariant-loop-start
+invariant-loop-start l = Begun l.start-index l.draft l.table
