@@ -1,7 +1,8 @@
 -- What a sweep of a book on the yard answers.
 use Rattle.std.proofs.Common.{◌≡◌, ℕ, ◌<◌, List, map, length, get_or, take, Ok, sym, refl, ap, ◌∙◌, subst, rules, arith}
 use Rattle.book.specs.Reading.{Serving, rows_there}
-use Rattle.book.specs.Sweeping.{Served, Entered, SweepRefused, unused}
+use Rattle.std.proofs.lemmas.List.{length_push}
+use Rattle.book.specs.Sweeping.{Served, Entered, SweepRefused, swept_sheet, unused}
 use Rattle.book.specs.declared.added.Added.{Added}
 use Rattle.book.specs.declared.book.Book.{Book}
 use Rattle.book.specs.declared.fault.PlannerFault.{PlannerFault}
@@ -52,7 +53,7 @@ module _ (k : Book Sum Limit) (roads : List Road) (rows : List (Row SumValue Lim
     };
     by_rows = record {
       long = omega (arith, o.used);
-      each = λ i d lt. absurd (omega (arith, ap (λ n. length (take n k.sheets)) o.count));
+      each = λ i d lt. absurd (omega (arith, lt, o.count));
     };
   }
 
@@ -90,7 +91,7 @@ module _ (k : Book Sum Limit) (roads : List Road) (rows : List (Row SumValue Lim
       (λ i. record { sheet = sheet_is i; rows = six i }),
       record {
         places = ap (λ n. n.places) h.book.network ∙ o.on.built.places;
-        count = omega (arith, h.book.count, o.count);
+        count = omega (arith, ap length h.book.sheets, length_push k.sheets.items (swept_sheet k 0 added.rows), o.count);
         serving = serving;
         lists = lists;
       },

@@ -1,6 +1,6 @@
 -- What the calls on the yard answer.
 use Rattle.std.specs.Prelude.{◌≡◌, ℕ, ◌<◌, ◌≤◌, cond, List, map, length, Ok, Err, Result, nat_lt, slice_index_or}
-use Rattle.book.specs.Reading.{Serving, rows_there}
+use Rattle.book.specs.Reading.{Serving, count_of, rows_there}
 use Rattle.book.specs.declared.added.Added.{Added}
 use Rattle.book.specs.declared.book.Book.{Book}
 use Rattle.book.specs.declared.fault.PlannerFault.{PlannerFault}
@@ -35,13 +35,13 @@ pub record OnYard (k : Book Sum Limit) (table : List Road) : Type 0 where
 -- such a book without a sheet
 pub record Opened (k : Book Sum Limit) (table : List Road) : Type 0 where
   pub on : OnYard k table
-  pub count : k.count ≡ 0
+  pub count : count_of k ≡ 0
   pub used : k.used ≡ 0
 
 -- a book whose sheet 0 lists the pages of the sweep from place 0 of the yard, in a row table that serves it
 pub record Listing (k : Book Sum Limit) (rows : List (Row SumValue LimitValue)) : Type 0 where
   pub places : k.network.places ≡ 4
-  pub count : k.count ≡ 1
+  pub count : count_of k ≡ 1
   pub serving : Serving (by_time k) (by_load k) k rows
   pub lists : (p : ℕ) → map pair_of (rows_there k rows 0 p) ≡ listed p
 
