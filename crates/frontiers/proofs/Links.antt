@@ -26,7 +26,6 @@ none_apart e = apart refl (ap is_none e)
 pub same_row : {A : Type 0} {x y : A} → Some x ≡ Some y → x ≡ y
 same_row {x = x} e = ap (λ o. unwrap_or o x) e
 
-module _ {V W : Type 0} where
 -- the last row at its place tells whether an extension is covered
 module _ {V W : Type 0} (a : Meaning V) (b : Meaning W) (la : Laws a) (lb : Laws b) (roads : List Road) (origin : ℕ) (front rs : List (Row V W)) (g : Grown a b roads origin front rs) (q : Row V W) (e : Extension a b roads (length front) rs q) where
   -- where the last row is at least as good by the second criterion, one of the rows covers the extension
