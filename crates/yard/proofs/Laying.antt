@@ -4,7 +4,7 @@ use Rattle.std.specs.Result.{IsOk}
 use Rattle.std.proofs.lemmas.List.{get_or-map, get_or-take, get_or_default, take_more, take_more_set, take_all}
 use Rattle.roads.proofs.Changes.{unread}
 use Rattle.roads.specs.Drafts.{Serving, LayingRefused, Laid, ClosingRefused, Closed}
-use Rattle.roads.specs.Tables.{Within, opened}
+use Rattle.roads.specs.Tables.{Within}
 use Rattle.roads.specs.declared.draft.Draft.{Draft}
 use Rattle.roads.specs.declared.draft.calls.Unclosed.{Unclosed}
 use Rattle.roads.specs.declared.fault.DraftFault.{DraftFault}
@@ -94,8 +94,4 @@ module _ (d : Draft) (t t' : List Road) (b : Begun 7 d t) where
   pub built : (n : Network) → Closed d t (Ok n) t' → Built n t'
   built n (_, _, places, roads, open_is) =
       let all : t ≡ yard_roads = sym (take_all 7 t (omega (arith, b.long))) ∙ b.same in
-      record {
-        places = omega (arith, b.places);
-        roads = omega (arith, b.roads);
-        table_is = open_is ∙ ap (λ k. opened k t) b.roads ∙ ap (opened 7) all;
-      }
+      search rules

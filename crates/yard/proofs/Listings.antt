@@ -49,7 +49,7 @@ module _ (k : Book Sum Limit) (roads : List Road) (rows : List (Row SumValue Lim
     by_roads = record {
       long = omega (arith, o.on.built.roads, ap length o.on.built.table_is);
       named = λ i d lt.
-          within_yard k.network.places i d (get_or (roads) i d) o.on.built.places (omega (arith, o.on.built.roads)) (ap (λ l. get_or l i d) o.on.built.table_is);
+          within_yard k.network.places i d (get_or roads i d) o.on.built.places (omega (arith, o.on.built.roads)) (ap (λ l. get_or l i d) o.on.built.table_is);
     };
     by_rows = record {
       long = omega (arith, o.used);
