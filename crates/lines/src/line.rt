@@ -25,6 +25,7 @@ impl Line {
         ensures bytes { result.bytes ≡ text self }
         ensures fits { length (text self) ≤ 48 }
     {
+        // The arms look alike: each has its line's words.
         match self {
             Line::Loaded { places, roads } => pair(
                 "loaded ",

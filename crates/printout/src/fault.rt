@@ -15,6 +15,7 @@ pub(crate) enum RecordFault {
     Planner(PlannerFault),
 }
 
+// By hand and not derived, as the contracts say which fault each becomes.
 impl From<Refusal> for RecordFault {
     ghost from_gives = { λ f r. r ≡ fault.File f };
 
