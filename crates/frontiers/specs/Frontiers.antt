@@ -1,5 +1,5 @@
 -- What the frontier of a sweep holds, place by place.
-use Rattle.std.specs.Prelude.{◌≡◌, ℕ, ◌+◌, ◌<◌, ◌≤◌, Bool, true, false, ◌⊎◌, List, length, take, Some, None, MatchBool, Option, ◌≢◌, slice_index_or, slice_set}
+use Rattle.std.specs.Prelude.{◌≡◌, ℕ, ◌+◌, ◌<◌, ◌≤◌, Bool, true, false, ◌⊎◌, List, length, take, Some, None, MatchBool, Ok, Err, Option, Result, ◌≢◌, slice_index_or, slice_set}
 use Rattle.criteria.specs.Meaning.{Meaning, Strict, Laws}
 use Rattle.roads.specs.Tables.{Within}
 use Rattle.roads.specs.declared.road.Road.{Road}
@@ -170,6 +170,6 @@ module _ {V W : Type 0} (a : Meaning V) (b : Meaning W) where
     pub same_origin : standing.origin ≡ origin
 
   -- a sweep over a whole table ended with n rows and nothing left to add, or filled the table with a row left over
-  abbrev pub Searched : List Road → ℕ → ℕ → ℕ → List (Row V W) → Option ℕ → Type 0
-  Searched roads places origin base table (Some n) = (n ≤ length table) × (Grew roads places origin base (take n table) × ((z : Row V W) → Fresh a b roads base (take n table) z → ⊥))
-  Searched roads places origin base table None = (length table ≡ 0) ⊎ (Grew roads places origin base table × ((c : Row V W) × Next a b roads base table c))
+  abbrev pub Searched : {E : Type 0} → List Road → ℕ → ℕ → ℕ → List (Row V W) → Result ℕ E → Type 0
+  Searched roads places origin base table (Ok n) = (n ≤ length table) × (Grew roads places origin base (take n table) × ((z : Row V W) → Fresh a b roads base (take n table) z → ⊥))
+  Searched roads places origin base table (Err _) = (length table ≡ 0) ⊎ (Grew roads places origin base table × ((c : Row V W) × Next a b roads base table c))

@@ -1,5 +1,5 @@
 -- What a search in the unused part of a row table makes of the whole.
-use Rattle.std.proofs.Common.{◌≡◌, ℕ, ◌+◌, ◌<◌, ◌≤◌, ◌⊎◌, List, ◌++◌, map, length, take, replicate, Some, None, Option, ok_or, IfSome, IfOk, sym, ◌∙◌, subst, ⊎_elim, arith}
+use Rattle.std.proofs.Common.{◌≡◌, ℕ, ◌+◌, ◌<◌, ◌≤◌, ◌⊎◌, List, ◌++◌, map, length, take, replicate, Ok, Err, Result, IfOk, IfErr, sym, ◌∙◌, subst, ⊎_elim, arith}
 use lib.ListN.{length-replicate}
 use Rattle.std.proofs.lemmas.List.{get_or-take, length-take-le}
 use Rattle.criteria.specs.Meaning.{Meaning, Laws}
@@ -22,6 +22,7 @@ use Rattle.growth.proofs.Counting.{exactly, room, some_row, crowd, crowd_one}
 use Rattle.growth.proofs.Wholeness.{page}
 use Rattle.frontiers.specs.Frontiers.{Founded, Grew, Searched}
 use Rattle.sweep.specs.Sweeps.{plan_of, Accepted, Crowded, Swept, MayStand}
+use Rattle.sweep.specs.declared.sweeping.SweepFault.{SweepFault}
 use Rattle.sweep.specs.declared.sweeping.SweepFault.TheVariants.{RowsFull}
 
 -- the counted roads of a table that serves a network name its places
@@ -114,16 +115,17 @@ module _ {V W : Type 0} (a : Meaning V) (b : Meaning W) (n : Network) (roads : L
   founded free fits places_fit roads_fit = record { first_laws = la; second_laws = lb; named = counted_named n roads serves; inside = inside; small = places_fit; counted = omega (arith, length-take-le n.roads roads serves.long); fits = fits }
 
   -- what a search of the counted roads says of the whole answer
-  pub swept_by : (free : ℕ) (rows : List (Row V W)) (found : Option ℕ) → used + free ≤ 65536 → length rows ≡ free → Searched a b (take n.roads roads) n.places origin used rows found → Swept a b n roads used free origin (ok_or found RowsFull) rows
-  swept_by free rows (Some count) fits long (few, (grew, none)) = ((fits, serves), inside, accepted count rows few grew none)
-  swept_by free rows None fits long why = (
-    (fits, serves),
-    inside,
-    subst (Crowded a b n roads origin) long (crowded rows why),
-    λ m number. subst (λ k. k < m) long (overfull rows why m number),
-  )
+  pub swept_by : (free : ℕ) (rows : List (Row V W)) (found : Result ℕ SweepFault) → used + free ≤ 65536 → length rows ≡ free → Searched a b (take n.roads roads) n.places origin used rows found → IfErr found (λ f. f ≡ RowsFull) → Swept a b n roads used free origin found rows
+  swept_by free rows (Ok count) fits long (few, (grew, none)) full = ((fits, serves), inside, accepted count rows few grew none)
+  swept_by free rows (Err f) fits long why full =
+      subst (λ x. Swept a b n roads used free origin (Err x) rows) (sym full) (
+        (fits, serves),
+        inside,
+        subst (Crowded a b n roads origin) long (crowded rows why),
+        λ m number. subst (λ k. k < m) long (overfull rows why m number),
+      )
 
   -- and of where its rows may stand
-  pub lawful_by : (rows : List (Row V W)) (found : Option ℕ) → Searched a b (take n.roads roads) n.places origin used rows found → IfSome found (λ count. Sourced (length (take n.roads roads)) used (take count rows)) → IfOk (ok_or found RowsFull) (λ count. MayStand a b n used count rows)
-  lawful_by rows (Some count) (few, (grew, none)) sourced = may_stand count rows grew sourced
-  lawful_by rows None why sourced = tt
+  pub lawful_by : (rows : List (Row V W)) (found : Result ℕ SweepFault) → Searched a b (take n.roads roads) n.places origin used rows found → IfOk found (λ count. Sourced (length (take n.roads roads)) used (take count rows)) → IfOk found (λ count. MayStand a b n used count rows)
+  lawful_by rows (Ok count) (few, (grew, none)) sourced = may_stand count rows grew sourced
+  lawful_by rows (Err f) why sourced = tt

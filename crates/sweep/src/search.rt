@@ -1,13 +1,14 @@
-ghost use Rattle.std.specs.Prelude.{◌≡◌, ℕ, ◌+◌, ◌<◌, ◌≤◌, List, length, take, None, Option, IfSome, slice_index_or};
+ghost use Rattle.std.specs.Prelude.{◌≡◌, ℕ, ◌+◌, ◌<◌, ◌≤◌, List, length, take, None, Option, IfOk, IfErr, slice_index_or};
 ghost use Rattle.criteria.specs.Meaning.{Laws};
 ghost use Rattle.growth.specs.Complete.{EmptyRow};
 ghost use Rattle.growth.specs.Sourced.{Sourced};
 ghost use Rattle.frontiers.specs.Frontiers.{Linked, Standing, Newest, Older, Ready, Chosen, Searching, Searched, Founded};
 ghost use Rattle.sweep.specs.Steps.{Advanced, SourcedAfter};
+ghost use Rattle.sweep.specs.declared.sweeping.SweepFault.TheVariants.{RowsFull};
 
 use crate::frontier::Best;
 use crate::renewal::Renewal;
-use crate::{Frontier, ahead};
+use crate::{Frontier, SweepFault, ahead};
 use criteria::{Criterion, laws_stand};
 use roads::Road;
 use rows::{Row, Source};
@@ -24,8 +25,10 @@ pub(crate) struct Search<'s, A: Criterion, B: Criterion> {
     pub(crate) base: u32,
 }
 
+// The frontier and the rows are lent to each method, and a search goes by the first n of them: both are the caller's, and a struct
+// that holds a `&mut` can have no ghost field.
 impl<A: Criterion, B: Criterion> Search<'_, A, B> {
-    // The better of what was chosen among the first n places and what the next one holds.
+    // The better of what was chosen among the first places and what the next one holds.
     fn better(
         &self,
         choice: Option<Row<A::Value, B::Value>>,
@@ -48,7 +51,8 @@ impl<A: Criterion, B: Criterion> Search<'_, A, B> {
         }
     }
 
-    // The best row that the places hold.
+    // The best row that the places hold. Place by place, and not by `reduce`, as what is chosen among the first places is the fact that
+    // the loop keeps.
     fn pick(&self, best: &Best<A::Value, B::Value>) -> Option<Row<A::Value, B::Value>>
         requires { self.now.places ≤ 2048 }
         ensures { Chosen (A.Criterion.meaning self.now.first.now) (B.Criterion.meaning self.now.second.now) self.now.places best.now.rows result }
@@ -97,7 +101,7 @@ impl<A: Criterion, B: Criterion> Search<'_, A, B> {
         frontier: &mut Frontier<A::Value, B::Value>,
         rows: &mut [Row<A::Value, B::Value>],
         n: u32,
-    ) -> Option<bool>
+    ) -> Result<bool, SweepFault>
         requires searching { Searching (A.Criterion.meaning self.now.first.now) (B.Criterion.meaning self.now.second.now) self.now.roads.now self.now.places self.now.origin self.now.base (take n rows.old) frontier.old.best.rows frontier.old.links.last frontier.old.links.prev }
         requires within { n ≤ length rows.old }
         requires room { self.now.base + length rows.old ≤ 65536 }
@@ -105,15 +109,15 @@ impl<A: Criterion, B: Criterion> Search<'_, A, B> {
         ensures sourced { Sourced (length self.now.roads.now) self.now.base (take n rows.old) → SourcedAfter (length self.now.roads.now) self.now.base n rows.new result }
     {
         let Some(row) = self.pick(&frontier.best) else {
-            return Some(false);
+            return Ok(false);
         };
         if n as usize >= rows.len() {
-            return None;
+            return Err(SweepFault::RowsFull);
         }
         rows[n as usize] = row;
         frontier.links.link(row.end, n);
         self.renew(frontier, rows, n, row.end);
-        Some(true)
+        Ok(true)
     }
 
     // Adds the best uncovered extension, again and again, until none is left or the table is full. Tells the number of rows.
@@ -121,20 +125,21 @@ impl<A: Criterion, B: Criterion> Search<'_, A, B> {
         &self,
         frontier: &mut Frontier<A::Value, B::Value>,
         rows: &mut [Row<A::Value, B::Value>],
-    ) -> Option<u32>
+    ) -> Result<u32, SweepFault>
         requires searching { Searching (A.Criterion.meaning self.now.first.now) (B.Criterion.meaning self.now.second.now) self.now.roads.now self.now.places self.now.origin self.now.base (take 1 rows.old) frontier.old.best.rows frontier.old.links.last frontier.old.links.prev }
         requires sourced { Sourced (length self.now.roads.now) self.now.base (take 1 rows.old) }
         requires some { 1 ≤ length rows.old }
         requires room { self.now.base + length rows.old ≤ 65536 }
         ensures searched { Searched (A.Criterion.meaning self.now.first.now) (B.Criterion.meaning self.now.second.now) self.now.roads.now self.now.places self.now.origin self.now.base rows.new result }
-        ensures sourced { IfSome result (λ count. Sourced (length self.now.roads.now) self.now.base (take count rows.new)) }
+        ensures full { IfErr result (λ f. f ≡ RowsFull) }
+        ensures sourced { IfOk result (λ count. Sourced (length self.now.roads.now) self.now.base (take count rows.new)) }
     {
-        // No `for`: how many steps there are shows only at the last.
+        // No `for`: n is the number of rows, and only a step tells that there are no more.
         let mut n = 1;
         while self.advance(frontier, rows, n)? {
             n += 1;
         }
-        Some(n)
+        Ok(n)
     }
 
     // The row of the empty trip.
@@ -172,13 +177,14 @@ impl<A: Criterion, B: Criterion> Search<'_, A, B> {
         &self,
         frontier: &mut Frontier<A::Value, B::Value>,
         rows: &mut [Row<A::Value, B::Value>],
-    ) -> Option<u32>
+    ) -> Result<u32, SweepFault>
         requires { Founded (A.Criterion.meaning self.now.first.now) (B.Criterion.meaning self.now.second.now) self.now.roads.now self.now.places self.now.origin self.now.base (length rows.old) }
         ensures searched { Searched (A.Criterion.meaning self.now.first.now) (B.Criterion.meaning self.now.second.now) self.now.roads.now self.now.places self.now.origin self.now.base rows.new result }
-        ensures sourced { IfSome result (λ count. Sourced (length self.now.roads.now) self.now.base (take count rows.new)) }
+        ensures full { IfErr result (λ f. f ≡ RowsFull) }
+        ensures sourced { IfOk result (λ count. Sourced (length self.now.roads.now) self.now.base (take count rows.new)) }
     {
         if rows.is_empty() {
-            return None;
+            return Err(SweepFault::RowsFull);
         }
         self.begin(frontier, rows);
         self.climb(frontier, rows)

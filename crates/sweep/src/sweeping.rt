@@ -58,5 +58,5 @@ pub fn sweep<A: Criterion, B: Criterion>(
         origin,
         base: used,
     };
-    search.grow(frontier, free).ok_or(SweepFault::RowsFull)
+    search.grow(frontier, free)
 }

@@ -1,9 +1,8 @@
-use Rattle.std.proofs.Common.{◌+◌, ◌<◌, ◌≤◌, length, take, IfOk, IfSome, sym, refl, subst, arith, rules}
+use Rattle.std.proofs.Common.{◌+◌, ◌<◌, ◌≤◌, length, take, IfOk, sym, refl, subst, arith, rules}
 use Rattle.roads.specs.Networks.{Serving}
 use Rattle.roads.specs.Tables.{Serves}
 use Rattle.growth.specs.Sourced.{Sourced}
 use Rattle.frontiers.specs.Frontiers.{Founded, Searched}
-use Rattle.sweep.specs.Sweeps.{Swept, MayStand}
 use Rattle.sweep.proofs.Sweeps.{founded, swept_by, lawful_by}
 use Rattle.sweep.proofs.sweeping.sweep.Given as given
 use Rattle.sweep.proofs.sweeping.sweep.Goals as goal
@@ -42,15 +41,12 @@ returns-clause-swept g c =
     let s = (goal.at.returns-clause-swept g c).Else-origin-places in
     let a = g.A.Criterion.meaning c.args.a.now in
     let b = g.B.Criterion.meaning c.args.b.now in
-    subst (λ r. Swept a b c.args.network.now c.args.roads.now c.args.used (length c.args.free.now) c.args.origin r c.grow.new.rows) (sym c.ok_or.ensures.value)
-    (swept_by a b c.args.network.now c.args.roads.now c.args.origin c.args.used (serving g s) (inside g s) c.laws_stand.ensures c.laws_stand-2.ensures (length c.args.free.now) c.grow.new.rows c.grow.result (fits g s) c.grow.auto.rows (found g (goal.at.returns-clause-swept g c).After-grow))
+    swept_by a b c.args.network.now c.args.roads.now c.args.origin c.args.used (serving g s) (inside g s) c.laws_stand.ensures c.laws_stand-2.ensures (length c.args.free.now) c.grow.new.rows c.grow.result (fits g s) c.grow.auto.rows (found g (goal.at.returns-clause-swept g c).After-grow) c.grow.ensures.full
 
 pub returns-clause-lawful : goal.returns-clause-lawful
 returns-clause-lawful g c =
     let s = (goal.at.returns-clause-lawful g c).Else-origin-places in
     let a = g.A.Criterion.meaning c.args.a.now in
     let b = g.B.Criterion.meaning c.args.b.now in
-    let n = c.args.network.now in
-    subst (λ r. IfOk r (λ count. MayStand a b n c.args.used count c.grow.new.rows)) (sym c.ok_or.ensures.value)
-    (lawful_by a b n c.args.roads.now c.args.origin c.args.used (serving g s) (inside g s) c.laws_stand.ensures c.laws_stand-2.ensures c.grow.new.rows c.grow.result (found g (goal.at.returns-clause-lawful g c).After-grow)
-    (subst (λ k. IfSome c.grow.result (λ count. Sourced (length (take k c.args.roads.now)) c.args.used (take count c.grow.new.rows))) c.roads-count.ensures c.grow.ensures.sourced))
+    lawful_by a b c.args.network.now c.args.roads.now c.args.origin c.args.used (serving g s) (inside g s) c.laws_stand.ensures c.laws_stand-2.ensures c.grow.new.rows c.grow.result (found g (goal.at.returns-clause-lawful g c).After-grow)
+    (subst (λ k. IfOk c.grow.result (λ count. Sourced (length (take k c.args.roads.now)) c.args.used (take count c.grow.new.rows))) c.roads-count.ensures c.grow.ensures.sourced)

@@ -18,7 +18,7 @@ pub returns-then-n-rows-clause-advanced : goal.returns-then-n-rows-clause-advanc
 returns-then-n-rows-clause-advanced g c =
     let s = c.args.self.now in
     let f = c.args.frontier.now in
-    (c.if-n-rows.true, (refl, (c.in-Some.row, step_next (g.A.Criterion.meaning s.first.now) (g.B.Criterion.meaning s.second.now) s.roads.now s.places s.origin s.base c.args.rows.now c.args.n f.best.rows f.links.last f.links.prev c.requires.searching c.requires.within c.in-Some.row c.in-Some.ensures)))
+    (refl, (c.if-n-rows.true, (refl, (c.in-Some.row, step_next (g.A.Criterion.meaning s.first.now) (g.B.Criterion.meaning s.second.now) s.roads.now s.places s.origin s.base c.args.rows.now c.args.n f.best.rows f.links.last f.links.prev c.requires.searching c.requires.within c.in-Some.row c.in-Some.ensures))))
 
 pub link-requires-clause-low : goal.link-requires-clause-low
 link-requires-clause-low g c =
