@@ -1,16 +1,17 @@
 -- The rows that a check has passed, one by one.
-use Rattle.std.proofs.Common.{◌≡◌, ℕ, ◌+◌, ◌<◌, ◌≤◌, min, Bool, true, false, ◌↔◌, List, length, get_or, take, MatchBool, HoldsAt, refl, Some, None, Option, nat_eq, Decides, sym, ap, ◌∙◌, subst, ⊎_elim, get_or-take, eqb-true, eq-eqb, arith}
-use Rattle.std.specs.List.{AllWithin}
+use Rattle.std.proofs.Common.{◌≡◌, ℕ, ◌+◌, ◌-◌, ◌<◌, ◌≤◌, min, Bool, true, false, ◌↔◌, List, length, get_or, take, MatchBool, HoldsAt, refl, Some, None, Option, nat_eq, Decides, sym, ap, ◌∙◌, subst, get_or-take, eqb-true, eq-eqb, arith}
+use Rattle.std.specs.List.{AllWithin, range_with_len}
+use Rattle.std.proofs.lemmas.List.FromFn.{get_or-range_with_len, length-range_with_len}
 use Rattle.std.specs.Option.{option_eq}
 use Rattle.std.proofs.lemmas.List.{length-take-le}
-use Rattle.std.proofs.lemmas.Bool.{cases_lt, false≢true}
+use Rattle.std.proofs.lemmas.Bool.{false≢true}
 use Rattle.criteria.specs.Meaning.{Meaning}
 use Rattle.rows.specs.declared.row.Row.{Row}
 use Rattle.rows.specs.declared.sheet.Sheet.{Sheet}
 use Rattle.rows.specs.Places.{RowAt}
 use Rattle.rows.specs.declared.row.Source.{Source}
 use Rattle.rows.specs.declared.row.Source.TheVariants.{Empty, Extend, Pair, Taken}
-use Rattle.rows.specs.Sound.{Made, LawfulRow, SheetSound}
+use Rattle.rows.specs.Sound.{Made, LawfulAt, SheetSound}
 use Rattle.rows.proofs.Sources.{same_row, same_value, no_value}
 
 -- what the answer false decides
@@ -58,34 +59,19 @@ module _ {V W : Type 0} (t : List (Row V W)) (k : ℕ) (within : k ≤ length t)
     λ x. record { early = omega (arith, long, x.early); count = λ p at. x.count p (row_out i p at) },
   )
 
-  -- and it may stand there
-  pub lawful_cut : (a : Meaning V) (b : Meaning W) (places roads reach : ℕ) (r : Row V W) → LawfulRow a b places roads (take k t) reach (length (take k t)) r ↔ LawfulRow a b places roads t reach k r
-  lawful_cut a b places roads reach r = (
-    λ x. record { fits = x.fits; made = (made_cut roads r.roads r.source).0 x.made },
-    λ x. record { fits = x.fits; made = (made_cut roads r.roads r.source).1 x.made },
-  )
+-- what is known of the row that stands at an index is known of each that does
+pub one_row : {V W : Type 0} (t : List (Row V W)) (k : ℕ) (r : Row V W) (P : Row V W → Type 0) (b : Bool) → RowAt t k r → Decides b (P r) → Decides b ((q : Row V W) → RowAt t k q → P q)
+one_row t k r P b at (told, tells) = (λ e q at'. subst P (same_row t k r q at at') (told e), λ all. tells (all r at))
+
+-- a test of each number of a range decides whether it holds of all
+pub range_decides : (P : ℕ → Type 0) (from n : ℕ) (b : Bool) → MatchBool b (AllWithin P (range_with_len from n) 0 (length (range_with_len from n))) ((k : ℕ) × (k < length (range_with_len from n)) × HoldsAt (λ i. P i → ⊥) (range_with_len from n) k) → Decides b ((i : ℕ) → from ≤ i → i < from + n → P i)
+range_decides P from n true all = (λ _ i low high. let k = i - from in let is : from + k ≡ i = omega arith in subst P (get_or-range_with_len from n k 0 (omega arith) ∙ is) (all k 0 (omega arith) (omega (arith, length-range_with_len from n))), λ _. refl)
+range_decides P from n false (k, lt, fails) = denied (λ all. fails 0 (subst P (sym (get_or-range_with_len from n k 0 (omega (arith, length-range_with_len from n)))) (all (from + k) (omega arith) (omega (arith, length-range_with_len from n)))))
 
 module _ {V W : Type 0} (a : Meaning V) (b : Meaning W) (places roads : ℕ) (table : List (Row V W)) where
-  -- each row from one index up to another may stand where it does
-  pub record Passed (reach from to : ℕ) : Type 0 where
-    pub rows : (k : ℕ) (r : Row V W) → from ≤ k → k < to → RowAt table k r → LawfulRow a b places roads table reach k r
-
-  pub passed_none : (reach from : ℕ) → Passed reach from from
-  passed_none reach from = record { rows = λ k r h l at. absurd (omega arith) }
-
-  pub passed_more : (reach from k : ℕ) (r : Row V W) → Passed reach from k → RowAt table k r → LawfulRow a b places roads table reach k r → Passed reach from (k + 1)
-  passed_more reach from k r p at lawful =
-      record {
-        rows = λ j q h l at'.
-            ⊎_elim (λ lt. p.rows j q h lt at')
-            (λ ge.
-            let same : k ≡ j = omega arith in
-            subst (λ i. LawfulRow a b places roads table reach i q) same (subst (LawfulRow a b places roads table reach k) (same_row table k r q at (subst (λ i. RowAt table i q) (sym same) at')) lawful))
-            (cases_lt j k);
-      }
-
-  pub passed_all : (s : Sheet) (k : ℕ) → min (s.start + s.len) (length table) ≤ k → Passed s.reach s.start k → SheetSound a b places roads table s
-  passed_all s k h p = record { rows = λ j r from to at. p.rows j r from (omega (arith, at.0)) at }
-
-  pub lawful_at : (s : Sheet) (k : ℕ) (r : Row V W) → s.start ≤ k → k < min (s.start + s.len) (length table) → RowAt table k r → SheetSound a b places roads table s → LawfulRow a b places roads table s.reach k r
-  lawful_at s k r h l at sound = sound.rows k r h (omega arith) at
+  -- the rows of the sheet are those of a range, as far as the table has them
+  pub sheet_decides : (s : Sheet) (e : ℕ) (r : Bool) → e ≡ min (s.start + s.len) (length table) → Decides r ((k : ℕ) → s.start ≤ k → k < s.start + (e - s.start) → LawfulAt a b places roads table s.reach k) → Decides r (SheetSound a b places roads table s)
+  sheet_decides s e r is (told, tells) = (
+    λ h. record { rows = λ k x from below at. told h k from (omega (arith, at.0)) x at },
+    λ sound. tells (λ k from below x at. sound.rows k x from (omega arith) at),
+  )

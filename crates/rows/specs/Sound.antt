@@ -51,6 +51,10 @@ module _ {V W : Type 0} where
     pub fits : Fits a b places reach r
     pub made : Made roads table k r.roads r.source
 
+  -- what stands at k in the table may stand there, in a sheet of that reach
+  abbrev pub LawfulAt : (a : Meaning V) (b : Meaning W) (places roads : ℕ) (table : List (Row V W)) (reach k : ℕ) → Type 0
+  LawfulAt a b places roads table reach k = (r : Row V W) → RowAt table k r → LawfulRow a b places roads table reach k r
+
   -- every row of the sheet may stand where it does
   pub record SheetSound (a : Meaning V) (b : Meaning W) (places roads : ℕ) (table : List (Row V W)) (s : Sheet) : Type 0 where
     pub rows : (k : ℕ) (r : Row V W) → s.start ≤ k → k < s.start + s.len → RowAt table k r → LawfulRow a b places roads table s.reach k r

@@ -1,5 +1,5 @@
 ghost use Rattle.std.specs.Prelude.{◌≡◌, ℕ, ◌≤◌, ◌↔◌, length, take, Some, IfSome, ◌<◌, ◌^◌, Decides, option_map, slice_get};
-ghost use Rattle.rows.specs.Sound.{Made, Fits, LawfulRow, SheetSound, Sound};
+ghost use Rattle.rows.specs.Sound.{Made, Fits, LawfulAt, SheetSound, Sound};
 
 use crate::{Row, Sheet, Source};
 use criteria::Criterion;
@@ -54,30 +54,26 @@ impl<A: Criterion, B: Criterion> Check<'_, A, B> {
             && self.second.test(row.second, row.roads)
     }
 
-    // Whether the row behind the earlier ones may stand there, in a sheet of that reach.
-    fn is_lawful(
-        &self,
-        reach: u32,
-        earlier: &[Row<A::Value, B::Value>],
-        row: &Row<A::Value, B::Value>,
-    ) -> bool
-        ensures { Decides result (LawfulRow (A.Criterion.meaning self.now.first.now) (B.Criterion.meaning self.now.second.now) self.now.places self.now.roads earlier.now reach (length earlier.now) row.now) }
+    // Whether row k of the table may stand there, in a sheet of that reach.
+    fn is_lawful(&self, table: &[Row<A::Value, B::Value>], reach: u32, k: usize) -> bool
+        requires { k < length table.now }
+        ensures { Decides result (LawfulAt (A.Criterion.meaning self.now.first.now) (B.Criterion.meaning self.now.second.now) self.now.places self.now.roads table.now reach k) }
     {
+        let row = &table[k];
         self.is_fit(reach, row)
-            && row.source.count(earlier, self.roads) == Some(u64::from(row.roads))
+            && row.source.count(&table[..k], self.roads) == Some(u64::from(row.roads))
     }
 
     // Whether every row of the sheet may stand where it does.
     fn is_sheet_sound(&self, table: &[Row<A::Value, B::Value>], sheet: &Sheet) -> bool
         ensures { Decides result (SheetSound (A.Criterion.meaning self.now.first.now) (B.Criterion.meaning self.now.second.now) self.now.places self.now.roads table.now sheet.now) }
     {
-        // A loop over the index, since a row's source may name the rows before its own index alone.
-        for k in sheet.start as usize..sheet.end(table.len()) {
-            if !self.is_lawful(sheet.reach, &table[..k], &table[k]) {
-                return false;
-            }
-        }
-        true
+        (sheet.start as usize..sheet.end(table.len())).all(
+            |k|
+                requires { k < length table.now }
+                ensures { Decides result (LawfulAt (A.Criterion.meaning self.entry.now.first.now) (B.Criterion.meaning self.entry.now.second.now) self.entry.now.places self.entry.now.roads table.entry.now sheet.entry.now.reach k) }
+            { self.is_lawful(table, sheet.reach, k) },
+        )
     }
 }
 

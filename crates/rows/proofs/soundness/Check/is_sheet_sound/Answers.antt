@@ -1,33 +1,19 @@
-use Rattle.std.proofs.Common.{refl, arith}
-use Rattle.std.proofs.lemmas.Bool.Decides.{not_from_Decides}
-use Rattle.rows.proofs.Sources.{item_at}
-use Rattle.rows.proofs.Checks.{denied, passed_more, passed_all, lawful_at, lawful_cut}
+use Rattle.std.proofs.Common.{refl, ap, ◌∙◌, ℕ, ◌-◌}
+use Rattle.std.proofs.lemmas.Bool.{false≢true}
+use Rattle.std.proofs.lemmas.Iterator.{YieldsList-from_range, cases_from_all}
+use Rattle.rows.specs.Sound.{LawfulAt}
+use Rattle.rows.proofs.Checks.{range_decides, sheet_decides}
 use Rattle.rows.proofs.soundness.Check.is_sheet_sound.Goals as goal
-
-pub returns-then-not-is_lawful : goal.returns-then-not-is_lawful
-returns-then-not-is_lawful g c =
-    let s = c.args.self.now in
-    let a = g.A.Criterion.meaning s.first.now in
-    let b = g.B.Criterion.meaning s.second.now in
-    let t = c.args.table.now in
-    let sheet = c.args.sheet.now in
-    let k = c.loop-k.k in
-    let r = c.index-table-k.result in
-    let at = item_at t k r c.index-table-k.is (omega arith) in
-    denied (λ all. not_from_Decides c.is_lawful.result c.is_lawful.ensures c.if-not-is_lawful.true ((lawful_cut t k (omega arith) a b s.places s.roads sheet.reach r).1 (lawful_at a b s.places s.roads t sheet k r (omega arith) (omega arith) at all)))
-
-pub loop-k-preserved : goal.loop-k-preserved
-loop-k-preserved g c =
-    let s = c.args.self.now in
-    let a = g.A.Criterion.meaning s.first.now in
-    let b = g.B.Criterion.meaning s.second.now in
-    let t = c.args.table.now in
-    let sheet = c.args.sheet.now in
-    let k = c.loop-k.k in
-    let r = c.index-table-k.result in
-    passed_more a b s.places s.roads t sheet.reach sheet.start k r c.loop-k.invariant (item_at t k r c.index-table-k.is (omega arith)) ((lawful_cut t k (omega arith) a b s.places s.roads sheet.reach r).0 (c.is_lawful.ensures.0 c.if-not-is_lawful.false))
 
 pub returns : goal.returns
 returns g c =
     let s = c.args.self.now in
-    (λ _. passed_all (g.A.Criterion.meaning s.first.now) (g.B.Criterion.meaning s.second.now) s.places s.roads c.args.table.now c.args.sheet.now c.loop-k.k (omega arith) c.loop-k.invariant, λ _. refl)
+    let a = g.A.Criterion.meaning s.first.now in
+    let b = g.B.Criterion.meaning s.second.now in
+    let t = c.args.table.now in
+    let sheet = c.args.sheet.now in
+    let P : ℕ → Type 0 = LawfulAt a b s.places s.roads t sheet.reach in
+    let n = c.end.result - sheet.start in
+    -- a call leaves what the closure holds
+    let all = cases_from_all _ _ _ P (λ k. P k → ⊥) c.all.ensures.ran (YieldsList-from_range sheet.start c.end.result n (cc) refl) (λ x q k. (ap (λ v. (v, q.1, q.2)) k.met.0.0 ∙ ap (λ v. (c.args.self, v, q.2)) k.met.0.1 ∙ ap (λ v. (c.args.self, c.args.table, v)) k.met.0.2, k.met.1.0 refl)) (λ x q k p. false≢true (k.met.1.1 p)) in
+    sheet_decides a b s.places s.roads t sheet c.end.result c.all.result c.end.ensures.end (range_decides P sheet.start n c.all.result all)
