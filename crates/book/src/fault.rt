@@ -23,7 +23,7 @@ pub enum PlannerFault {
 }
 
 impl PlannerFault {
-    // The number by which the refusal is known.
+    // The number by which the refusal is known. A method, since a cast has no contract to state the number in.
     pub fn number(&self) -> u32
         ensures { result ≡ planner_number self.now }
     {

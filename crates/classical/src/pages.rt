@@ -10,6 +10,7 @@ pub fn pages_are_classical()
 {}
 
 // By any two criteria the first row of a place is the best by the first, and on a tie by the second; and the last the other way round.
+// The two criteria are two parameters: each has a type of its own, and a struct of both would be one more.
 pub fn ends_are_best<A: Criterion, B: Criterion>(a: &A, b: &B)
     ensures first { FirstIsBest (A.Criterion.meaning a.now) (B.Criterion.meaning b.now) }
     ensures last { LastIsBest (A.Criterion.meaning a.now) (B.Criterion.meaning b.now) }

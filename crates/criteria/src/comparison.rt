@@ -5,6 +5,7 @@ ghost use Rattle.criteria.specs.declared.comparison.Comparison.TheVariants.{Bett
 use std::cmp::Ordering;
 
 // How the first of two values stands to the second.
+// Not std's Ordering: by some criteria the greater value is the better, and Less would then mislead.
 #[derive(Clone, Copy, Debug, PartialEq, Eq)]
 pub enum Comparison {
     Better,

@@ -8,7 +8,7 @@ pub enum CriterionFault {
 }
 
 impl CriterionFault {
-    // The number by which the fault is reported.
+    // The number by which the fault is reported. A method, since a cast has no contract to state the number in.
     pub fn number(&self) -> u32
         ensures { result ≡ fault_number self.now }
     {

@@ -3,6 +3,8 @@ ghost use Rattle.criteria.specs.Meaning.{Laws, Steadiness};
 
 use crate::criterion::{Criterion, Steady};
 
+// Each function here is a theorem: its contract is the law, and its body names the promise that gives it.
+
 // Every criterion keeps the laws.
 pub fn laws_stand<C: Criterion>(criterion: &C)
     ensures { Laws (C.Criterion.meaning criterion.now) }

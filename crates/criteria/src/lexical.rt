@@ -70,6 +70,7 @@ impl<A: Steady, B: Criterion> Criterion for Lexical<A, B> {
     }
 
     fn compare(&self, x: Self::Value, y: Self::Value) -> Comparison {
+        // A match: the second part is asked on a tie alone.
         match self.first.compare(x.first, y.first) {
             Comparison::Equal => self.second.compare(x.second, y.second),
             decided => decided,

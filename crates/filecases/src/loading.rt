@@ -75,7 +75,7 @@ fn weight(road: &Road) -> u64
 }
 
 // What a layer is called.
-// Kept as a function: the type is another crate's.
+// A function: the words are what these cases print, and the library has none of its own.
 fn name(layer: Layer) -> &'static str
     ensures { result.now ≡ layer_name layer }
 {

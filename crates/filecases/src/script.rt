@@ -13,7 +13,7 @@ pub struct Case {
     pub file: Vec<u8>,
 }
 
-// Why a line says no case.
+// Why a line says no case. Without equality: nothing compares two flaws.
 #[derive(Debug, Drop, Error)]
 pub enum Flaw {
     #[error("a number is expected")]
@@ -44,6 +44,7 @@ fn add_word(heap: Global, file: &mut Vec<u8>, word: &str) -> Result<(), Flaw> {
         None => (word, 1),
     };
     let unit = bytes(heap, digits)?;
+    // Over numbers: `repeat` would make all of them in a second vector first.
     for _ in 0..times {
         file.extend_from_slice(unit.as_slice())?;
     }
@@ -71,7 +72,7 @@ fn byte(high: u8, low: u8) -> Result<u8, Flaw>
     Ok(16 * x + y)
 }
 
-// The value of a hexadecimal digit.
+// The value of a hexadecimal digit. A match: `from_str_radix` would also take capital letters and a sign.
 fn digit(c: u8) -> Result<u8, Flaw>
     ensures { MatchResult result (λ d. Digit c d) (λ _. (d : ℕ) → Digit c d → ⊥) }
 {

@@ -107,6 +107,7 @@ fn put<const N: usize>(table: &mut [u8; N], text: &ArrayString<N>) -> usize
 }
 
 // Fills the table with the text, and zeros after it; tells the text's length.
+// The caller's table and a length, and not a text: nothing is allocated, and the promise says every byte of the table.
 pub fn fill<const N: usize>(table: &mut [u8; N], text: &ArrayString<N>) -> usize
     ensures length { result ≡ length text.now.bytes }
     ensures bytes { table.new ≡ text.now.bytes ++ replicate (N - length text.now.bytes) 0 }
@@ -117,6 +118,7 @@ pub fn fill<const N: usize>(table: &mut [u8; N], text: &ArrayString<N>) -> usize
 }
 
 // Fills the table with the line, line feed included, and zeros after it; tells the line's length.
+// The caller's table and a length, as in `fill`.
 pub fn write_line(line: Line, table: &mut [u8; 48]) -> usize
     ensures length { result ≡ length (text line) }
     ensures bytes { table.new ≡ text line ++ replicate (48 - length (text line)) 0 }

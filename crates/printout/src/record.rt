@@ -26,6 +26,7 @@ const TIME: u32 = 0;
 const LOAD: u32 = 2;
 
 // Fills the table with the record of a road file, and zeros after it; tells the record's length.
+// The caller's table and a length, as in `fill` of `lines`.
 pub fn write_record(file: &[u8], table: &mut [u8; RECORD]) -> usize
     ensures { Told file.now table.new result }
 {

@@ -70,6 +70,7 @@ impl FirstSheet<'_> {
 }
 
 // The limit of a row, where there is one.
+// A function of this crate: that no limit is printed as a dash is a matter of this record and not of the criterion.
 fn limit(value: LimitValue) -> Option<u32>
     ensures { result ≡ limit_of value }
 {

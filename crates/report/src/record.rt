@@ -43,6 +43,7 @@ fn line_of(file: &[u8]) -> Line
 }
 
 // Fills the table with the record of a road file, and zeros after it; tells the record's length.
+// The caller's table and a length, as in `fill` of `lines`.
 pub fn write_record(file: &[u8], table: &mut [u8; 48]) -> usize
     ensures { Told file.now table.new result }
 {

@@ -17,6 +17,7 @@ pub enum Refusal {
     Fault(LoadFault),
 }
 
+// Written out: no derive makes a From.
 impl From<LoadFault> for Refusal {
     ghost from_gives = { λ f r. r ≡ Fault f };
 

@@ -1,4 +1,5 @@
-// Little-endian numbers in a run of bytes. Two functions of two lines: std has no trait for the `from_le_bytes` of both types.
+// Little-endian numbers in a run of bytes. Two functions of two lines: std has no trait for the `from_le_bytes` of both types, and
+// a crate that has one would be a crate more for four lines.
 ghost use Rattle.std.specs.Prelude.{◌≡◌, ◌≤◌, ◌++◌, length};
 ghost use Rattle.roadfile.specs.Format.{little};
 

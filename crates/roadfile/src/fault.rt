@@ -35,6 +35,7 @@ pub struct LoadFault {
     pub offset: u64,
 }
 
+// Written out: no derive makes a From.
 impl From<DraftFault> for FileFault {
     ghost from_gives = { λ f r. r ≡ Draft f };
 

@@ -5,6 +5,7 @@ use crate::{FileFault, Item, LoadFault, Reader, Record};
 use roads::{Draft, Network, Road};
 
 // Adds to the draft what the record says.
+// A draft and its table are two parameters, as in every call of a draft: the table is the caller's.
 fn add(said: &Record, draft: &mut Draft, table: &mut [Road]) -> Result<(), FileFault>
     ensures { Added (entry said.now) draft.old table.old result draft.new table.new }
 {
@@ -44,7 +45,7 @@ pub fn load(file: &[u8], table: &mut [Road]) -> Result<Network, LoadFault>
     let mut reader = Reader::open(file)?;
     let mut draft = Draft::new();
     let mut offset = 0;
-    // No `for`: what a reader answers may be a fault, which ends the loop by `?`.
+    // No `for`: a reader is no iterator, since `next` may answer a fault, which ends the loop by `?`.
     while let Some(item) = reader.next()? {
         offset = item.offset;
         add_item(&item, &mut draft, table)?;

@@ -5,6 +5,7 @@ use crate::Record;
 pub mod calls;
 
 // A road file that is being read: the bytes whose records were not handed out yet, the size of the whole file, and whether no more will be handed out.
+// `done` stands beside the bytes: after the end record `finish` and `offset` still ask for those that follow it.
 #[derive(Debug, Drop)]
 pub struct Reader<'a> {
     pub(crate) left: &'a [u8],

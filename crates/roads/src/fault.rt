@@ -37,7 +37,7 @@ pub enum NetworkFault {
 }
 
 impl NetworkFault {
-    // The number by which the refusal is known.
+    // The number by which the refusal is known. A method, since a cast has no contract to state the number in.
     pub fn number(&self) -> u32
         ensures { result ≡ network_number self.now }
     {

@@ -3,6 +3,7 @@ ghost use Rattle.std.specs.Prelude.{◌<◌, ◌≤◌};
 pub mod calls;
 
 // A closed draft: its places and roads are fixed, and only marks and openness of its roads, in the caller's table, may change.
+// The same fields as a draft has, which may still grow: so a call on the wrong one of the two does not compile.
 // The counts stand apart from the table, since the table is the caller's and nothing is allocated.
 #[derive(Clone, Copy, Debug, PartialEq, Eq)]
 pub struct Network {

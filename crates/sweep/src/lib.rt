@@ -1,4 +1,5 @@
-// The frontier of a sweep: the best uncovered extension into each place.
+// A sweep, which fills a table with the efficient rows of one origin, and its frontier, which holds the best uncovered extension
+// into each place.
 #![tactic(auto)]
 
 mod compare;

@@ -26,7 +26,7 @@ fn passes_end(used: u32, free: usize) -> bool
 }
 
 // Sweeps from the origin over the open roads of the network, and tells how many rows there are. They are written to the front of
-// the free rows, which stand behind `used` others in their table.
+// the free rows, which stand behind `used` others in their table. A parameter for each: they are the caller's, and lent apart.
 pub fn sweep<A: Criterion, B: Criterion>(
     a: &A,
     b: &B,

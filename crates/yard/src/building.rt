@@ -31,6 +31,7 @@ fn places() -> Draft
     ensures roads { result.roads ≡ 0 }
 {
     let mut draft = Draft::new();
+    // Over numbers: the same call four times, and each gives the next place.
     for _ in 0..PLACES {
         draft.place().unwrap();
     }

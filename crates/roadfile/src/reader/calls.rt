@@ -34,7 +34,7 @@ impl<'a> Reader<'a> {
         }
         let left = self.left;
         let offset = self.offset();
-        // So it stays where no record begins.
+        // Set before the record is read, so that it stays set where the reading is refused.
         self.done = true;
         let record = first_record(left).map_err(|fault| fault.at(offset))?;
         self.left = &left[record.size()..];
