@@ -17,7 +17,7 @@ pub enum Refusal {
     Fault(LoadFault),
 }
 
-// Written out: no derive makes a From.
+// Written out and not derived: its clause says which fault each becomes.
 impl From<LoadFault> for Refusal {
     ghost from_gives = { λ f r. r ≡ Fault f };
 

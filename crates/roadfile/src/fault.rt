@@ -35,7 +35,7 @@ pub struct LoadFault {
     pub offset: u64,
 }
 
-// Written out: no derive makes a From.
+// Written out and not derived: its clause says which fault each becomes.
 impl From<DraftFault> for FileFault {
     ghost from_gives = { λ f r. r ≡ Draft f };
 
