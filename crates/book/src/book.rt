@@ -9,7 +9,8 @@ pub mod calls;
 pub mod reading;
 pub mod sweeping;
 
-// The sheets of a planner over one network, judged by two criteria. Their rows stand in the caller's row table.
+// The sheets of a planner over one network, judged by two criteria. Their rows stand in the caller's row table, of which `used` are
+// in use: the sum of the sheets' lengths, so that no call adds them up.
 #[derive(Drop)]
 pub struct Book<A, B> {
     pub(crate) network: Network,

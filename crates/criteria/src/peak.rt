@@ -9,8 +9,7 @@ use crate::criterion::Criterion;
 use crate::fault::CriterionFault;
 
 // What a trip is worth by Peak.
-// An enum of its own, as the value of Limit is: callers match the case without a road by its name, and a grade is never taken for
-// a limit.
+// An enum of its own, as the value of Limit is: its cases are public, and callers name them.
 #[derive(Clone, Copy, Debug, PartialEq, Eq, PartialOrd, Ord)]
 pub enum PeakValue {
     // No road, so no grade: better than every mark.

@@ -43,7 +43,7 @@ impl Tally {
 
     // Adds what the reader hands out until it ends.
     fn drain(&mut self, reader: &mut Reader) -> Result<(), LoadFault> {
-        // No `for`: a reader is no iterator, since `next` may answer a fault, which ends the loop by `?`.
+        // No `for`: `next` of a reader promises a Result of an Option, so a reader is no iterator. A fault ends the loop by `?`.
         while let Some(item) = reader.next()? {
             self.add(&item);
         }

@@ -13,8 +13,8 @@ pub struct Case {
     pub file: Vec<u8>,
 }
 
-// Why a line says no case. Without equality: nothing compares two flaws.
-#[derive(Debug, Drop, Error)]
+// Why a line says no case.
+#[derive(Debug, Drop, Error, PartialEq, Eq)]
 pub enum Flaw {
     #[error("a number is expected")]
     Number(#[from] ParseIntError),

@@ -13,6 +13,7 @@ use lines::Line;
 use rows::Row;
 
 // The first sheet of a book.
+// That it can be read at a place stands in clauses: it is a fact about the place too, which a ghost field could not name.
 #[derive(Clone, Copy)]
 pub(crate) struct FirstSheet<'b> {
     pub(crate) book: &'b Book<Sum, Limit>,

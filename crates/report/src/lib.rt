@@ -5,5 +5,5 @@ mod record;
 mod refusal;
 
 pub use lines::{Line, write_line};
-pub use record::{BLANK, ROADS, network_of, write_record};
+pub use record::{BLANK, FILE, ROADS, network_of, write_record};
 pub use refusal::Refusal;

@@ -8,7 +8,7 @@ use roadfile::load;
 use roads::{Network, Road};
 
 // The most bytes that a road file given to the program may have.
-const FILE: usize = 65536;
+pub const FILE: usize = 65536;
 // The roads of the table that the program loads a file into.
 pub const ROADS: usize = 1024;
 // An entry of that table before a file is loaded.

@@ -45,7 +45,7 @@ pub fn load(file: &[u8], table: &mut [Road]) -> Result<Network, LoadFault>
     let mut reader = Reader::open(file)?;
     let mut draft = Draft::new();
     let mut offset = 0;
-    // No `for`: a reader is no iterator, since `next` may answer a fault, which ends the loop by `?`.
+    // No `for`: `next` of a reader promises a Result of an Option, so a reader is no iterator. A fault ends the loop by `?`.
     while let Some(item) = reader.next()? {
         offset = item.offset;
         add_item(&item, &mut draft, table)?;

@@ -17,7 +17,8 @@ pub enum DraftFault {
 }
 
 impl DraftFault {
-    // The number by which the refusal is known. Each enum of refusals has this method: its contract names that enum's numbers.
+    // The number by which the refusal is known. Each enum whose refusals have numbers has this method: its contract names that enum's
+    // numbers.
     pub fn number(&self) -> u32
         ensures { result ≡ draft_number self.now }
     {

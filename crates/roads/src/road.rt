@@ -20,6 +20,7 @@ impl Road {
 }
 
 // Whether a road table serves a network of so many places and roads: it is long enough, and every counted road names places that exist.
+// Two numbers, and not a draft or a network: both ask it.
 pub fn serves(table: &[Road], places: u32, roads: u32) -> bool
     ensures { Decides result (Serves places roads table.now) }
 {

@@ -3,7 +3,7 @@ ghost use Rattle.rows.specs.Places.{RowAt, rows_at, rows_of, StandsAt, Position}
 
 use crate::{Row, Sheet};
 
-// The functions below take the table, the sheet and the place apart, as their callers have them: the call of a book asks for each.
+// The public functions take the table, the sheet and the place apart, as their callers have them: the call of a book asks for each.
 
 // How many rows of the sheet end at the place.
 pub fn count_at<X, Y>(table: &[Row<X, Y>], sheet: &Sheet, place: u32) -> u32
@@ -71,7 +71,8 @@ fn last<'r, X, Y>(rows: &'r [Row<X, Y>], place: u32) -> Option<&'r Row<X, Y>>
     rows.iter().filter(|row| row.end == place).last()
 }
 
-// Which of the rows is the one of that index among those that end at the place.
+// Which of the rows is the one of that index among those that end at the place. Not what `nth` is made from: a number would have
+// to be looked up again.
 fn position<X, Y>(rows: &[Row<X, Y>], place: u32, index: usize) -> Option<usize>
     ensures { MatchOption result (length (rows_at place rows.now) ≤ index) (λ k. Position rows.now place index k) }
 {

@@ -79,6 +79,7 @@ impl<A: Criterion, B: Criterion> Check<'_, A, B> {
 
 // Whether the table has the used rows, and every row of every sheet may stand where it does.
 // The two criteria are two parameters: each has a type of its own, and a struct of both would be one more.
+// The numbers of places and roads stand apart for a caller who has no network, as this crate has none.
 pub fn sound<A: Criterion, B: Criterion>(
     a: &A,
     b: &B,

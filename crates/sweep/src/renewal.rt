@@ -14,8 +14,8 @@ use rows::{Row, Source};
 // A search that has a row more, until its frontier is ready again: the criteria, the roads, the rows so far, which stand behind
 // `base` others in their table, their links, and the newest row and where it ends.
 // Its methods ask for Standing in their clauses: a ghost field must be a fact that has one proof at most, and the laws of a
-// criterion may have several. That an offered row ends below 2,048 stands in clauses too: a row's own type knows no bound. Its
-// fields are those of Search, and not a Search, so that clauses name them shortly.
+// criterion may have several. That an offered row ends below 2,048 stands in clauses too: a row's own type knows no bound. Four
+// of its fields are those of a Search, and not a Search, so that clauses name them shortly.
 #[derive(Drop)]
 pub(crate) struct Renewal<'s, A: Criterion, B: Criterion> {
     pub(crate) first: &'s A,
@@ -36,6 +36,7 @@ impl<A: Criterion, B: Criterion> Renewal<'_, A, B> {
         requires { q.now.end < 2048 }
         ensures { Shown (B.Criterion.meaning self.now.second.now) self.now.rows.now q.now (slice_index_or self.now.links.now.last q.now.end None) result }
     {
+        // A match: the closure of `is_some_and` would need its contract written out, which is longer than these arms.
         match self.links.last_at(q.end) {
             None => false,
             Some(k) => as_good(self.second, self.rows[k as usize].second, q.second),
@@ -47,6 +48,7 @@ impl<A: Criterion, B: Criterion> Renewal<'_, A, B> {
         requires { q.now.end < 2048 }
         ensures { MatchBool result (Outdone (A.Criterion.meaning self.now.first.now) (B.Criterion.meaning self.now.second.now) q.now best.now.rows) (Foremost (A.Criterion.meaning self.now.first.now) (B.Criterion.meaning self.now.second.now) q.now best.now.rows) }
     {
+        // A match, as in `shadowed`.
         match &best.rows[q.end as usize] {
             None => false,
             Some(held) => ahead(self.first, self.second, held, q),

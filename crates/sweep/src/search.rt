@@ -26,7 +26,7 @@ pub(crate) struct Search<'s, A: Criterion, B: Criterion> {
 }
 
 // The frontier and the rows are lent to each method, and a search goes by the first n of them: both are the caller's, and a struct
-// that holds a `&mut` can have no ghost field.
+// that lent them could have no ghost field, so that what is known of them would stand in clauses still.
 impl<A: Criterion, B: Criterion> Search<'_, A, B> {
     // The better of what was chosen among the first places and what the next one holds.
     fn better(

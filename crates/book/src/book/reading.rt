@@ -6,6 +6,7 @@ use criteria::Criterion;
 use rows::{Row, Sheet, count_at, last_at, row_at, sound};
 
 // Each call takes the rows, the number of a sheet and that of a place: a value of the three would only be made for one call.
+// The two best calls look alike and stand apart: each promises another end of the list.
 impl<A: Criterion, B: Criterion> Book<A, B> {
     // How many rows of the sheet end at the place.
     pub fn count(

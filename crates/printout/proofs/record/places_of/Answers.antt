@@ -12,7 +12,7 @@ use Rattle.printout.proofs.record.places_of.Goals as goal
 
 -- a refusal's line is what the file comes to
 told : (file : List ℕ) (after : List Road) (r : Refusal) → NetworkOf file (replicate 1024 blank) after (Err r) → Says file (text (refusal_line r))
-told file after TooLong long = inl (long, refl)
+told file after TooLong (long, _) = inl (long, refl)
 told file after (Fault f) (short, loaded) = inr (short, record { after = after; answer = Err f; loaded = loaded; answered = refl })
 
 pub returns-in_err-network : goal.returns-in_err-network

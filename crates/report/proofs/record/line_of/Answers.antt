@@ -13,7 +13,7 @@ blank = record { start = 0; end = 0; marks = replicate 4 0; «open» = false }
 
 -- a refusal's line is what the file comes to
 told : (file : List ℕ) (table after : List Road) (r : Refusal) → length table ≡ 1024 → NetworkOf file table after (Err r) → Says file (refusal_line r)
-told file table after TooLong room long = inl (long, refl)
+told file table after TooLong room (long, _) = inl (long, refl)
 told file table after (Fault f) room (short, loaded) = inr (short, record { table = table; after = after; answer = Err f; room = room; loaded = loaded; line = refl })
 
 pub returns-in-Ok : goal.returns-in-Ok
