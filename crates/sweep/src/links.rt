@@ -3,7 +3,8 @@ ghost use Rattle.std.specs.Prelude.{◌≡◌, ◌<◌, length, replicate, Some,
 use rows::ROWS;
 
 // The rows of a search, place by place: for each place the last row there, and for each row the last one before it at its place.
-// Fixed arrays of numbers, as a sweep allocates nothing: as many as a network may have places, and a table rows.
+// Fixed arrays of numbers, as a sweep allocates nothing: as many as a network may have places, and a table rows. The
+// number of places stands here as it stands in the clauses.
 #[derive(Drop)]
 pub(crate) struct Links {
     last: [Option<u32>; 2048],
