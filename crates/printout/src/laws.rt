@@ -13,7 +13,8 @@ pub fn one_record()
     one_page();
 }
 
-// By the record's criteria a plan has one page at most at a place.
+// By the record's criteria a plan has one page at most at a place. They are made here and for the record: two calls, which a function
+// would only name.
 fn one_page()
     ensures { UniquePage by_time by_load }
 {

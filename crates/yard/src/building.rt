@@ -17,7 +17,7 @@ const ROADS: [(u32, u32, [u32; 4]); 7] = [
     (3, 0, [12, 1, 500, 4]),
 ];
 
-// A road to fill a table with.
+// A road to fill a table with. Not the blank road of `report`, on which the yard does not stand.
 const UNUSED: Road = Road {
     start: 0,
     end: 0,

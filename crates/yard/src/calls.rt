@@ -8,7 +8,8 @@ use roads::Road;
 use rows::Row;
 use sweep::Frontier;
 
-// A book on the yard, by the sum of mark 0 and the limit of mark 2, and the table of its roads.
+// A book on the yard, by the sum of mark 0 and the limit of mark 2, and the table of its roads. The criteria are made where they are
+// used, as elsewhere: two calls, which a function would only name.
 fn open() -> (Book<Sum, Limit>, [Road; 7])
     ensures { Opened result.0 result.1 }
 {
