@@ -1,7 +1,6 @@
 ghost use Rattle.std.specs.Prelude.{◌≡◌, ◌+◌, ◌-◌, ◌%◌, ◌≤◌, ◌++◌, length, replicate, codes, decimal};
 ghost use Rattle.arrayvec.specs.ArrayString.{array_string_len};
 ghost use Rattle.lines.specs.Text.{text};
-ghost use Rattle.lines.specs.Put.{Put};
 
 use arrayvec::ArrayString;
 
@@ -96,16 +95,6 @@ fn last_digit(n: u64) -> u8
     b'0' + (n % 10) as u8
 }
 
-// Puts the text at the table's start; tells its length.
-fn put<const N: usize>(table: &mut [u8; N], text: &ArrayString<N>) -> usize
-    ensures put { Put text.now.bytes 0 table.old table.new result }
-    ensures fits { length text.now.bytes ≤ N }
-{
-    let size = text.len();
-    table[..size].copy_from_slice(text.as_bytes());
-    size
-}
-
 // Fills the table with the text, and zeros after it; tells the text's length.
 // The caller's table and a length, and not a text: nothing is allocated, and the promise says every byte of the table.
 pub fn fill<const N: usize>(table: &mut [u8; N], text: &ArrayString<N>) -> usize
@@ -114,7 +103,9 @@ pub fn fill<const N: usize>(table: &mut [u8; N], text: &ArrayString<N>) -> usize
     ensures fits { length text.now.bytes ≤ N }
 {
     table.fill(0);
-    put(table, text)
+    let size = text.len();
+    table[..size].copy_from_slice(text.as_bytes());
+    size
 }
 
 // Fills the table with the line, line feed included, and zeros after it; tells the line's length.

@@ -36,23 +36,22 @@ impl<A: Criterion, B: Criterion> Renewal<'_, A, B> {
         requires { q.now.end < 2048 }
         ensures { Shown (B.Criterion.meaning self.now.second.now) self.now.rows.now q.now (slice_index_or self.now.links.now.last q.now.end None) result }
     {
-        // A match: the closure of `is_some_and` would need its contract written out, which is longer than these arms.
-        match self.links.last_at(q.end) {
-            None => false,
-            Some(k) => as_good(self.second, self.rows[k as usize].second, q.second),
-        }
+        self.links.last_at(q.end).is_some_and(|k| as_good(
+            self.second,
+            self.rows[k as usize].second,
+            q.second,
+        ))
     }
 
     // Whether the place of q holds a row that is as good as q.
+    #[tactic(auto, using(frontiers::proofs::Offers::outdone_when, frontiers::proofs::Offers::holds_read))]
     fn outdone(&self, best: &Best<A::Value, B::Value>, q: &Row<A::Value, B::Value>) -> bool
         requires { q.now.end < 2048 }
         ensures { MatchBool result (Outdone (A.Criterion.meaning self.now.first.now) (B.Criterion.meaning self.now.second.now) q.now best.now.rows) (Foremost (A.Criterion.meaning self.now.first.now) (B.Criterion.meaning self.now.second.now) q.now best.now.rows) }
     {
-        // A match, as in `shadowed`.
-        match &best.rows[q.end as usize] {
-            None => false,
-            Some(held) => ahead(self.first, self.second, held, q),
-        }
+        best.rows[q.end as usize]
+            .as_ref()
+            .is_some_and(|held| ahead(self.first, self.second, held, q))
     }
 
     // Offers the extension q: its place holds it from now on if no row covers it and it is better than what is held there.

@@ -1,4 +1,4 @@
-use Rattle.std.proofs.Common.{ℕ, ◌+◌, length, get_or, take, set, Some, None, sym, refl, subst, arith, length-set, rules}
+use Rattle.std.proofs.Common.{◌+◌, length, take, set, sym, refl, subst, arith, length-set, rules}
 use Rattle.std.proofs.lemmas.List.{take-set, take_more_set}
 use Rattle.growth.specs.Sourced.{Sourced}
 use Rattle.growth.proofs.Sources.{sourced_next}

@@ -1,4 +1,4 @@
-use Rattle.std.proofs.Common.{[], ◌∷◌, length, get_or, take, set, replicate, Some, None, sym, subst, ap, ◌∙◌, arith, length-set, rules}
+use Rattle.std.proofs.Common.{length, get_or, take, set, replicate, Some, None, sym, subst, ap, ◌∙◌, arith, length-set, rules}
 use Rattle.std.proofs.lemmas.List.{take_more_set}
 use Rattle.growth.specs.Sourced.{Sourced}
 use Rattle.growth.proofs.Sources.{sourced_first}
