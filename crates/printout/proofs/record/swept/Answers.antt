@@ -1,11 +1,9 @@
-use Rattle.std.proofs.Common.{ℕ, Ok, Result, subst, ◌≡◌, ◌≤◌, length, replicate, ap, ◌∙◌, inl, inr, arith}
+use Rattle.std.proofs.Common.{ℕ, Ok, Result, subst, ◌≡◌, length, replicate, ap, ◌∙◌, inl, inr, arith}
 use lib.ListN.{length-replicate}
 use Rattle.criteria.specs.Fault.{Made}
 use Rattle.criteria.specs.declared.fault.CriterionFault.{CriterionFault}
 use Rattle.trips.specs.Efficient.{UniqueRows}
-use Rattle.trips.specs.Pages.{all_rows}
 use Rattle.printout.specs.Record.{by_load, by_time}
-use Rattle.printout.specs.Sheets.{pairs_listed}
 use Rattle.printout.proofs.Sheets.{New, crowded_out, few, listed}
 use Rattle.printout.proofs.Told.{fault_told}
 use Rattle.printout.specs.declared.fault.RecordFault.TheVariants.{Planner}
@@ -44,9 +42,9 @@ push_places-requires-clause-room c =
     let k' = c.sweep.new.self in
     let rows' = c.sweep.new.rows in
     let rows = replicate 1024 c.unused-rows.result in
-    let room : all_rows by_time by_load (pairs_listed k' rows') c.places.result ≤ 1024 = rw c.places.ensures (few n c.args.roads.now c.open-book.result rows (new o) k' rows' c.in_ok-sweep.field-0 c.in_ok-sweep.ensures (unique o)) in
+    let room = few n c.args.roads.now c.open-book.result rows (new o) k' rows' c.in_ok-sweep.field-0 c.in_ok-sweep.ensures (unique o) in
     let empty : length c.new-output.result.bytes ≡ 0 = ap length c.new-output.ensures in
-    omega (arith, c.places.ensures, n.places_fit)
+    rw c.places.ensures (omega (arith, room, empty, n.places_fit))
 
 pub returns-in_err-sweep : goal.returns-in_err-sweep
 returns-in_err-sweep c =
