@@ -44,7 +44,6 @@ impl<A: Criterion, B: Criterion> Renewal<'_, A, B> {
     }
 
     // Whether the place of q holds a row that is as good as q.
-    #[tactic(auto, using(frontiers::proofs::Offers::outdone_when, frontiers::proofs::Offers::holds_read))]
     fn outdone(&self, best: &Best<A::Value, B::Value>, q: &Row<A::Value, B::Value>) -> bool
         requires { q.now.end < 2048 }
         ensures { MatchBool result (Outdone (A.Criterion.meaning self.now.first.now) (B.Criterion.meaning self.now.second.now) q.now best.now.rows) (Foremost (A.Criterion.meaning self.now.first.now) (B.Criterion.meaning self.now.second.now) q.now best.now.rows) }

@@ -1,4 +1,5 @@
 use Rattle.std.proofs.Common.{◌+◌, ◌<◌, ◌≤◌, length, take, IfOk, sym, refl, subst, arith, rules}
+use Rattle.std.proofs.lemmas.List.{length-take-le}
 use Rattle.roads.specs.Networks.{Serving}
 use Rattle.roads.specs.Tables.{Serves}
 use Rattle.growth.specs.Sourced.{Sourced}
@@ -17,6 +18,9 @@ inside g c = omega (arith, c.places-places.ensures, c.if-origin-places.false)
 
 fits : (g : given.Over) (c : Else-origin-places g) → c.args.used + length c.args.free.now ≤ 65536
 fits g c = c.if-passes_end.ensures
+
+pub slice_bounds-search-end : goal.slice_bounds-search-end
+slice_bounds-search-end g c = sym (length-take-le c.roads-count.result c.args.roads.now (c.if-not-serves.ensures.0 refl).long)
 
 pub grow-requires : goal.grow-requires
 grow-requires g c =
