@@ -1,6 +1,6 @@
 -- What a sweep into the unused rows of a table makes of a book.
 use Rattle.std.proofs.Common.{◌≡◌, ℕ, ◌+◌, ◌-◌, ◌<◌, ◌≤◌, true, List, [], ◌∷◌, ◌++◌, map, length, get_or, take, drop, is_err, IsErrAnd, Ok, Err, Result, sym, refl, ap, ◌∙◌, subst, ⊎_elim, append_assoc, arith, length-append, length-drop, length-take}
-use Rattle.std.proofs.lemmas.List.{get_or_append_left, get_or-drop, get_or_push, get_or-set_same, get_or-take, length_push, length-take-le, drop_at, take-append-drop, take-append-le, take_at, take_more_set}
+use Rattle.std.proofs.lemmas.List.{get_or_append_left, get_or-drop, get_or_push, get_or-take, length_push, length-take-le, drop_at, take-append-drop, take-append-le, take_at}
 use Rattle.std.proofs.lemmas.Bool.{cases_lt, false≢true}
 use Rattle.criteria.specs.Meaning.{Meaning}
 use Rattle.roads.specs.Networks as network
