@@ -109,7 +109,7 @@ module _ {A B V W : Type 0} (a : Meaning V) (b : Meaning W) (k : Book A B) (road
     -- so the new sheet is sound
     new_sound : SheetSound a b k.network.places k.network.roads rows' s
     new_sound = record {
-      rows = λ j r from to (low, is).
+      rows = λ j from to r (low, is).
           let i = j - k.used in
           let same : k.used + i ≡ j = omega arith in
           let short : i < count = omega arith in

@@ -18,8 +18,8 @@ module _ {V W : Type 0} (t t' : List (Row V W)) (n : ℕ) (same : take n t' ≡ 
   -- a sheet of rows in use stays sound
   pub sheet_kept : (a : Meaning V) (b : Meaning W) (places roads : ℕ) (s : Sheet) → s.start + s.len ≤ n → SheetSound a b places roads t s → SheetSound a b places roads t' s
   sheet_kept a b places roads s within h = record {
-    rows = λ k r from to at.
-        let old = h.rows k r from to (row_kept k r (omega arith) at) in
+    rows = λ k from to r at.
+        let old = h.rows k from to r (row_kept k r (omega arith) at) in
         record { fits = old.fits; made = made_kept roads t t' k r.roads r.source (λ i p lt. row_kept i p (omega arith)) old.made };
   }
 

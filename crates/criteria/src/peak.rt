@@ -9,7 +9,8 @@ use crate::criterion::Criterion;
 use crate::fault::CriterionFault;
 
 // What a trip is worth by Peak.
-// An enum of its own, as the value of Limit is: its cases are public, and callers name them.
+// No Option, which would have the same order: `None` does not say that no road is better than every grade, and callers name the
+// cases of this public type.
 #[derive(Clone, Copy, Debug, PartialEq, Eq, PartialOrd, Ord)]
 pub enum PeakValue {
     // No road, so no grade: better than every mark.

@@ -13,7 +13,7 @@ use Rattle.growth.proofs.Invariant as invariant
 use Rattle.growth.proofs.Orders.{ahead_trans}
 use Rattle.growth.proofs.Tables.{at_left, at_push}
 use Rattle.growth.proofs.Bounds.{few_roads}
-use Rattle.frontiers.proofs.Links.{none_apart}
+use Rattle.std.proofs.lemmas.Option.{none-some}
 use Rattle.frontiers.specs.Frontiers.{Latest, Linked, Ready, Older, Newest, Standing, Passing, Chosen}
 
 module _ {V W : Type 0} (rs : List (Row V W)) (c : Row V W) where
@@ -123,7 +123,7 @@ pub chosen_none : {V W : Type 0} (a : Meaning V) (b : Meaning W) (roads : List R
 chosen_none a b roads base rs best places h small inside none z f =
     let within = inside z f in
     let (_, held, _) = (h z.end (omega arith)).first z f tt refl in
-    none_apart (sym (none z.end within) ∙ held)
+    none-some _ (sym (none z.end within) ∙ held)
 
 module _ {V W : Type 0} (a : Meaning V) (b : Meaning W) (roads : List Road) (base : ℕ) where
   -- extensions end at places of the network

@@ -8,7 +8,7 @@ use Rattle.growth.specs.Complete.{EmptyRow}
 use Rattle.growth.proofs.Invariant as invariant
 use Rattle.frontiers.specs.Frontiers.{Latest, Linked, Standing, Founded}
 use Rattle.frontiers.proofs.Appends.{linked_more, newest_more}
-use Rattle.frontiers.proofs.Links.{none_apart}
+use Rattle.std.proofs.lemmas.Option.{none-some}
 use Rattle.frontiers.proofs.Steps.{Forward}
 
 module _ {V W : Type 0} (a : Meaning V) (b : Meaning W) (roads : List Road) (places origin base room : ℕ) (h : Founded a b roads places origin base room) (some : 1 ≤ room) (r : Row V W) (e : EmptyRow a b origin r) where
@@ -55,7 +55,7 @@ module _ {V W : Type 0} (a : Meaning V) (b : Meaning W) (roads : List Road) (pla
     linked = linked_more [] r (replicate 2048 None) prev origin e.ends (omega (arith, h.inside, h.small)) (omega (arith, length-replicate {A = Option ℕ} 2048 None, h.inside, h.small)) (omega arith) (no_links prev);
     added = newest_more a b roads base [] r origin e.ends (omega (arith, h.inside, h.small));
     older = λ p low other. record {
-      right = λ c at. absurd (none_apart (sym (get_or-replicate 2048 p None None low) ∙ at));
+      right = λ c at. absurd (none-some _ (sym (get_or-replicate 2048 p None None low) ∙ at));
       first = λ q f s same. absurd (omega arith);
     };
   }

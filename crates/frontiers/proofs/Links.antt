@@ -1,6 +1,5 @@
 -- The last row at a place.
-use Rattle.std.proofs.Common.{◌≡◌, ℕ, ◌<◌, ◌≤◌, Bool, true, false, List, length, Some, None, MatchBool, Option, is_none, sym, refl, ap, ◌∙◌, subst, ⊎_elim, arith}
-use Rattle.std.specs.Option.{unwrap_or}
+use Rattle.std.proofs.Common.{◌≡◌, ℕ, ◌<◌, ◌≤◌, Bool, true, false, List, length, Some, None, MatchBool, Option, sym, ◌∙◌, subst, ⊎_elim, arith}
 use Rattle.std.proofs.lemmas.Bool.{cases_order}
 use Rattle.criteria.specs.Meaning.{Meaning, Strict, Laws}
 use Rattle.roads.specs.declared.road.Road.{Road}
@@ -17,14 +16,6 @@ use Rattle.frontiers.specs.Frontiers.{Latest, Shown}
 -- a test is not both true and false
 pub apart : {A : Type 0} {b : Bool} → b ≡ true → b ≡ false → A
 apart t f = let z : ◌≡◌ {A = ℕ} 0 1 = cc in absurd (omega arith)
-
--- a place that holds nothing holds no row
-pub none_apart : {A : Type 0} {x : A} → None ≡ Some x → ⊥
-none_apart e = apart refl (ap is_none e)
-
--- a place holds one row at most
-pub same_row : {A : Type 0} {x y : A} → Some x ≡ Some y → x ≡ y
-same_row {x = x} e = ap (λ o. unwrap_or o x) e
 
 -- the last row at its place tells whether an extension is covered
 module _ {V W : Type 0} (a : Meaning V) (b : Meaning W) (la : Laws a) (lb : Laws b) (roads : List Road) (origin : ℕ) (front rs : List (Row V W)) (g : Grown a b roads origin front rs) (q : Row V W) (e : Extension a b roads (length front) rs q) where

@@ -1,6 +1,7 @@
 -- What is held after an extension was offered.
 use Rattle.std.proofs.Common.{◌≡◌, ℕ, ◌+◌, ◌<◌, Bool, true, false, ◌⊎◌, List, length, get_or, set, Some, None, MatchBool, Option, sym, refl, ap, ◌∙◌, subst, ⊎_elim, arith, length-set, get_or-set_other, get_or-set_same}
 use Rattle.std.proofs.lemmas.List.{get_or_default, get_or_read}
+use Rattle.std.proofs.lemmas.Option.{same_Some}
 use Rattle.trips.specs.Plans.{Numbered}
 use Rattle.criteria.specs.Covers.{Covers}
 use Rattle.criteria.specs.Meaning.{Meaning, Laws}
@@ -12,7 +13,7 @@ use Rattle.growth.specs.Grown.{Grown}
 use Rattle.growth.proofs.Orders.{covers_same, covers_ahead, ahead_trans}
 use Rattle.growth.proofs.Tables.{at_one}
 use Rattle.frontiers.specs.Frontiers.{Latest, Shown, Holds, Outdone, Foremost, Weighed, shadowed, outdone, held, Held, Built, Passing, Standing, Follows, Tried}
-use Rattle.frontiers.proofs.Links.{shown_covered, same_row}
+use Rattle.frontiers.proofs.Links.{shown_covered}
 
 -- the row that was read stands where it was read
 pub row_read : {V W : Type 0} (rs : List (Row V W)) (i : ℕ) (x : Row V W) → i < length rs → x ≡ get_or rs i x → RowAt rs i x
@@ -30,7 +31,7 @@ module _ {V W : Type 0} (a : Meaning V) (b : Meaning W) where
   -- what the comparison with the held row says
   pub outdone_when : (q : Row V W) (best : List (Option (Row V W))) (x : Row V W) (r : Bool) → Holds best q.end x → MatchBool r (Ahead a b (pair_of x) (pair_of q)) (Ahead a b (pair_of q) (pair_of x)) → MatchBool r (Outdone a b q best) (Foremost a b q best)
   outdone_when q best x true holds h = record { row = x; held = holds; ahead = h }
-  outdone_when q best x false holds h = record { ahead = λ c at. subst (λ z. Ahead a b (pair_of q) (pair_of z)) (same_row (sym holds ∙ at)) h }
+  outdone_when q best x false holds h = record { ahead = λ c at. subst (λ z. Ahead a b (pair_of q) (pair_of z)) (same_Some _ _ (sym holds ∙ at)) h }
 
   module _ (la : Laws a) (lb : Laws b) (roads : List Road) (base : ℕ) (rs : List (Row V W)) where
     -- two extensions of one row by one road have the same values and the same end
@@ -97,7 +98,7 @@ module _ {V W : Type 0} (a : Meaning V) (b : Meaning W) where
             let now : Holds (set best q.end (Some q)) q.end q = get_or-set_same best q.end (Some q) None wide in
             record {
               right = λ c at.
-                  let is : q ≡ c = same_row (sym now ∙ at) in
+                  let is : q ≡ c = same_Some _ _ (sym now ∙ at) in
                   (subst (λ x. Fresh a b roads base rs x) is (record { index = i; row = p; number = j; road = r; extends = e; uncovered = (covers_if false s).1 refl }), ap (λ x. x.end) (sym is), subst (Passing a b) is passing);
               first = λ z f sn ez. (
                 q,

@@ -9,7 +9,7 @@ use Rattle.rows.specs.Places.{RowAt}
 use Rattle.growth.specs.Growing.{Fresh}
 use Rattle.trips.specs.Plans.{Numbered}
 use Rattle.frontiers.specs.Frontiers.{Linked, Held, Standing, Tried, Enters, Follows, Kept, Renewed, Newest, Older, Ready}
-use Rattle.frontiers.proofs.Links.{none_apart}
+use Rattle.std.proofs.lemmas.Option.{none-some}
 use Rattle.frontiers.proofs.Offers.{held_still, held_apart, held_here, kept}
 
 module _ {V W : Type 0} (a : Meaning V) (b : Meaning W) (la : Laws a) (lb : Laws b) (roads : List Road) (base : ℕ) (rs : List (Row V W)) (j place newest : ℕ) (r : Road) (n : Numbered roads j r) (new : Newest a b rs newest place) where
@@ -118,7 +118,7 @@ module _ {V W : Type 0} (a : Meaning V) (b : Meaning W) (la : Laws a) (lb : Laws
       (λ is.
       let empty : get_or (set best place None) p None ≡ None = ap (λ x. get_or (set best place None) x None) is ∙ get_or-set_same best place None None (omega (arith, sized, new.low)) in
       record {
-        right = λ c at. absurd (none_apart (sym empty ∙ at));
+        right = λ c at. absurd (none-some _ (sym empty ∙ at));
         first = λ z f s e. absurd (⊎_elim (λ lt. omega arith) (λ (other, _). other is) s);
       })
       (λ other.

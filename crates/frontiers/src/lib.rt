@@ -7,7 +7,7 @@ use criteria::{Criterion, laws_stand};
 
 // Offering the newest row with the roads that leave its place keeps what every place holds the best of what has been seen. The
 // best of what all places hold is the next row, and where no place holds anything, no uncovered extension is left.
-// A theorem, whose body only brings the laws. The two criteria are two parameters: each has a type of its own, and a struct of both would be one more.
+// A theorem, whose body only brings the laws. The two criteria stay two parameters: a struct of both would ask more of callers.
 pub fn frontier_is_sound<A: Criterion, B: Criterion>(a: &A, b: &B)
     ensures renewed { StaysRenewed (A.Criterion.meaning a.now) (B.Criterion.meaning b.now) }
     ensures next { ChoosesNext (A.Criterion.meaning a.now) (B.Criterion.meaning b.now) }

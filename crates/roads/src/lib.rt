@@ -7,7 +7,7 @@ mod network;
 mod road;
 
 pub use draft::Draft;
-pub use draft::calls::Unclosed;
+pub use draft::calls::{PLACES, Unclosed};
 pub use fault::{DraftFault, NetworkFault};
 pub use network::Network;
 pub use road::{Road, serves};

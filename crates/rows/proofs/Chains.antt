@@ -2,12 +2,18 @@
 use Rattle.std.proofs.Common.{◌≡◌, ℕ, zero, suc, ◌+◌, ◌-◌, ◌≤◌, true, false, cond, List, [], ◌∷◌, map, length, Some, None, Option, option_map, MatchOption, filter, nat_eq, slice_get, sym, refl, ap, ◌∙◌, subst, ⊎_elim, arith}
 use lib.ListN.{length-map}
 use Rattle.std.specs.List.{enumerate_from, last_or}
+use Rattle.std.specs.Option.{IsSomeAnd}
 use Rattle.std.proofs.lemmas.List.{get_or_default}
-use Rattle.std.proofs.lemmas.Option.{slice_get_cases}
+use Rattle.std.proofs.lemmas.Option.{none-some, same_Some, slice_get_cases}
 use Rattle.rows.specs.declared.row.Row.{Row}
 use Rattle.rows.specs.Places.{RowAt, rows_at, Position}
 use Rattle.rows.proofs.Filter.{at_tail}
-use Rattle.rows.proofs.Sources.{same_value, no_value}
+
+-- what is known of an answer, of what it is mapped to
+pub mapped : {A B : Type 0} (N : Type 0) (P : A → Type 0) (Q : B → Type 0) (F : A → B → Type 0) (o : Option A) (r : Option B) → MatchOption o (r ≡ None) (λ x. IsSomeAnd r (F x)) → MatchOption o N P → ((x : A) (y : B) → F x y → P x → Q y) → MatchOption r N Q
+mapped N P Q F None r e n h = subst (λ o. MatchOption o N Q) (sym e) n
+mapped N P Q F (Some x) (Some y) f p h = h x y f p
+mapped N P Q F (Some x) None f p h = absurd f
 
 module _ {V W : Type 0} (place : ℕ) where
   -- the rows of the place are those that pass the test
@@ -32,10 +38,10 @@ module _ {V W : Type 0} (place : ℕ) where
     pub among : RowAt here i r
 
   pub numbers_at : (b : ℕ) (rs : List (Row V W)) (i k : ℕ) (r : Row V W) → slice_get (filter (λ p. nat_eq p.1.end place) (enumerate_from b rs)) i ≡ Some (k, r) → Numbers b rs (rows_at place rs) i k r
-  numbers_at b [] i k r = λ e. absurd (no_value (sym e))
+  numbers_at b [] i k r = λ e. absurd (none-some _ e)
   numbers_at b (x ∷ rs) zero k r =
       elim (nat_eq x.end place) as (λ t. slice_get (cond t ((b, x) ∷ filter (λ p. nat_eq p.1.end place) (enumerate_from (b + 1) rs)) (filter (λ p. nat_eq p.1.end place) (enumerate_from (b + 1) rs))) zero ≡ Some (k, r) → Numbers b (x ∷ rs) (cond t (x ∷ rows_at place rs) (rows_at place rs)) zero k r) [
-        | true ↦ λ e. let pair = same_value e in record { index = 0; number = omega (arith, ap (λ q. q.0) pair); stands = (omega arith, λ d. ap (λ q. q.1) pair); among = (omega arith, λ d. ap (λ q. q.1) pair) }
+        | true ↦ λ e. let pair = same_Some _ _ e in record { index = 0; number = omega (arith, ap (λ q. q.0) pair); stands = (omega arith, λ d. ap (λ q. q.1) pair); among = (omega arith, λ d. ap (λ q. q.1) pair) }
         | false ↦ λ e. let n = numbers_at (b + 1) rs zero k r e in record { index = suc n.index; number = omega (arith, n.number); stands = at_tail x rs n.index r n.stands; among = n.among }
       ]
   numbers_at b (x ∷ rs) (suc i) k r =
@@ -49,13 +55,13 @@ module _ {V W : Type 0} {T : Type 0} (now : T → Row V W) where
   pub row_read : (xs : List (Row V W)) (i : ℕ) (o : Option T) → option_map now o ≡ slice_get xs i → MatchOption o (length xs ≤ i) (λ x. RowAt xs i (now x))
   row_read xs i None e =
       ⊎_elim
-      (λ (x, lt, is, at). absurd (no_value (sym is ∙ sym e)))
+      (λ (x, lt, is, at). absurd (none-some _ (e ∙ is)))
       (λ (le, none). le)
       (slice_get_cases xs i).1
   row_read xs i (Some y) e =
       ⊎_elim
-      (λ (x, lt, is, at). let same = same_value (e ∙ is) in (lt, λ d. get_or_default xs i d x lt ∙ at ∙ sym same))
-      (λ (le, none). absurd (no_value (e ∙ none)))
+      (λ (x, lt, is, at). let same = same_Some _ _ (e ∙ is) in (lt, λ d. get_or_default xs i d x lt ∙ at ∙ sym same))
+      (λ (le, none). absurd (none-some _ (sym none ∙ sym e)))
       (slice_get_cases xs i).1
 
   -- the last of some
@@ -65,18 +71,18 @@ module _ {V W : Type 0} {T : Type 0} (now : T → Row V W) where
 
   pub last_read : (xs : List T) (all : List (Row V W)) → map now xs ≡ all → (o : Option T) → o ≡ last_or None xs → MatchOption o (length all ≡ 0) (λ x. RowAt all (length all - 1) (now x))
   last_read [] all is None e = sym (ap length is)
-  last_read [] all is (Some y) e = absurd (no_value e)
-  last_read (x ∷ xs) all is None e = let (y, same, at) = last_of x xs in absurd (no_value (sym same ∙ sym e))
+  last_read [] all is (Some y) e = absurd (none-some _ (sym e))
+  last_read (x ∷ xs) all is None e = let (y, same, at) = last_of x xs in absurd (none-some _ (e ∙ same))
   last_read (x ∷ xs) all is (Some z) e =
       let (y, same, at) = last_of x xs in
-      let z_is : y ≡ z = same_value (sym same ∙ sym e) in
+      let z_is : y ≡ z = same_Some _ _ (sym same ∙ sym e) in
       subst (λ l. RowAt l (length l - 1) (now z)) is (subst (λ i. RowAt (map now (x ∷ xs)) i (now z)) (omega (arith, length-map xs now)) (subst (λ w. RowAt (map now (x ∷ xs)) (length xs) (now w)) z_is at))
 
   -- what is read of the numbered rows of a place
   pub position_read : (place : ℕ) (rs : List (Row V W)) (i : ℕ) (o : Option (ℕ × T)) → option_map (λ p. (p.0, now p.1)) o ≡ slice_get (filter (λ p. nat_eq p.1.end place) (enumerate_from 0 rs)) i → MatchOption o (length (rows_at place rs) ≤ i) (λ p. Position rs place i p.0)
   position_read place rs i None e =
       ⊎_elim
-      (λ (x, lt, is, at). absurd (no_value (sym is ∙ sym e)))
+      (λ (x, lt, is, at). absurd (none-some _ (e ∙ is)))
       (λ (le, none). omega (arith, numbered_pass place 0 rs))
       (slice_get_cases (filter (λ p. nat_eq p.1.end place) (enumerate_from 0 rs)) i).1
   position_read place rs i (Some p) e =

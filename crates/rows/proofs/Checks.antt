@@ -12,7 +12,8 @@ use Rattle.rows.specs.Places.{RowAt}
 use Rattle.rows.specs.declared.row.Source.{Source}
 use Rattle.rows.specs.declared.row.Source.TheVariants.{Empty, Extend, Pair, Taken}
 use Rattle.rows.specs.Sound.{Made, LawfulAt, SheetSound}
-use Rattle.rows.proofs.Sources.{same_row, same_value, no_value}
+use Rattle.std.proofs.lemmas.Option.{none-some, same_Some}
+use Rattle.rows.proofs.Sources.{same_row}
 
 -- what the answer false decides
 pub denied : {P : Type 0} → (P → ⊥) → Decides false P
@@ -29,8 +30,8 @@ all_decide P sheets false (k, lt, fails) = denied (λ all. fails unread (all k u
 
 -- whether a number is there and is that one
 pub same_number : (o : Option ℕ) (n : ℕ) → Decides (option_eq nat_eq o (Some n)) (o ≡ Some n)
-same_number None n = (λ e. absurd (false≢true e), λ e. absurd (no_value (sym e)))
-same_number (Some m) n = (λ e. ap Some (eqb-true m n e), λ e. eq-eqb m n (same_value e))
+same_number None n = (λ e. absurd (false≢true e), λ e. absurd (none-some _ e))
+same_number (Some m) n = (λ e. ap Some (eqb-true m n e), λ e. eq-eqb m n (same_Some _ _ e))
 
 module _ {V W : Type 0} (t : List (Row V W)) (k : ℕ) (within : k ≤ length t) where
   -- the first k rows stand where they do in the table
@@ -72,6 +73,6 @@ module _ {V W : Type 0} (a : Meaning V) (b : Meaning W) (places roads : ℕ) (ta
   -- the rows of the sheet are those of a range, as far as the table has them
   pub sheet_decides : (s : Sheet) (e : ℕ) (r : Bool) → e ≡ min (s.start + s.len) (length table) → Decides r ((k : ℕ) → s.start ≤ k → k < s.start + (e - s.start) → LawfulAt a b places roads table s.reach k) → Decides r (SheetSound a b places roads table s)
   sheet_decides s e r is (told, tells) = (
-    λ h. record { rows = λ k x from below at. told h k from (omega (arith, at.0)) x at },
-    λ sound. tells (λ k from below x at. sound.rows k x from (omega arith) at),
+    λ h. record { rows = λ k from below x at. told h k from (omega (arith, at.0)) x at },
+    λ sound. tells (λ k from below. sound.rows k from (omega arith)),
   )

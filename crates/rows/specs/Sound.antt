@@ -8,13 +8,6 @@ use Rattle.rows.specs.declared.sheet.Sheet.{Sheet}
 use Rattle.rows.specs.Places.{RowAt}
 
 module _ {V W : Type 0} where
-  -- row i stands before row k and has n roads
-  pub record Before (table : List (Row V W)) (k i n : ℕ) : Type 0 where
-    pub early : i < k
-    pub row : Row V W
-    pub stands : RowAt table i row
-    pub count : row.roads ≡ n
-
   -- n roads are those of row i, which stands before row k, and one more, road j, one of so many
   pub record Extended (roads : ℕ) (table : List (Row V W)) (k n i j : ℕ) : Type 0 where
     pub early : i < k
@@ -57,7 +50,7 @@ module _ {V W : Type 0} where
 
   -- every row of the sheet may stand where it does
   pub record SheetSound (a : Meaning V) (b : Meaning W) (places roads : ℕ) (table : List (Row V W)) (s : Sheet) : Type 0 where
-    pub rows : (k : ℕ) (r : Row V W) → s.start ≤ k → k < s.start + s.len → RowAt table k r → LawfulRow a b places roads table s.reach k r
+    pub rows : (k : ℕ) → s.start ≤ k → k < s.start + s.len → LawfulAt a b places roads table s.reach k
 
   -- the table has the used rows, and every row of every sheet may stand where it does
   pub record Sound (a : Meaning V) (b : Meaning W) (places roads : ℕ) (sheets : List Sheet) (used : ℕ) (table : List (Row V W)) : Type 0 where

@@ -11,13 +11,8 @@ impl Source {
     {
         match self {
             Source::Empty => Some(0),
-            Source::Extend { row, road } => {
-                if road < roads {
-                    Some(roads_of(earlier, row)? + 1)
-                } else {
-                    None
-                }
-            }
+            Source::Extend { row, road } if road < roads => Some(roads_of(earlier, row)? + 1),
+            Source::Extend { .. } => None,
             Source::Pair { left, right } => {
                 Some(roads_of(earlier, left)? + roads_of(earlier, right)?)
             }
@@ -64,7 +59,7 @@ impl<A: Criterion, B: Criterion> Check<'_, A, B> {
             && row.source.count(&table[..k], self.roads) == Some(u64::from(row.roads))
     }
 
-    // Whether every row of the sheet may stand where it does.
+    // Whether every row of the sheet may stand where it does. By index, as a row is tested by what stands before it in the table.
     fn is_sheet_sound(&self, table: &[Row<A::Value, B::Value>], sheet: &Sheet) -> bool
         ensures { Decides result (SheetSound (A.Criterion.meaning self.now.first.now) (B.Criterion.meaning self.now.second.now) self.now.places self.now.roads table.now sheet.now) }
     {
@@ -78,8 +73,8 @@ impl<A: Criterion, B: Criterion> Check<'_, A, B> {
 }
 
 // Whether the table has the used rows, and every row of every sheet may stand where it does.
-// The two criteria are two parameters: each has a type of its own, and a struct of both would be one more.
-// The numbers of places and roads stand apart for a caller who has no network, as this crate has none.
+// The two criteria are two parameters, and so are the numbers of places and roads, which need not be a network's: the public
+// signature stays, and a struct or a network would ask more of callers.
 pub fn sound<A: Criterion, B: Criterion>(
     a: &A,
     b: &B,

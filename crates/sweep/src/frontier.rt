@@ -1,12 +1,14 @@
 ghost use Rattle.std.specs.Prelude.{◌≡◌, length, replicate, None};
 
 use crate::links::Links;
+use roads::PLACES;
 use rows::Row;
 
-// For each place that a network may have the best uncovered extension into it, where there is one.
+// For each place that a network may have the best uncovered extension into it, where there is one. A fixed array, as a sweep
+// allocates nothing.
 #[derive(Drop)]
 pub(crate) struct Best<X, Y> {
-    pub(crate) rows: [Option<Row<X, Y>>; 2048],
+    pub(crate) rows: [Option<Row<X, Y>>; PLACES],
     ghost sized: { length rows ≡ 2048 },
 }
 
@@ -24,7 +26,9 @@ impl<X: Copy, Y: Copy> Frontier<X, Y> {
         ensures last { result.links.last ≡ replicate 2048 None }
     {
         Frontier {
-            best: Best { rows: [None; 2048] },
+            best: Best {
+                rows: [None; PLACES],
+            },
             links: Links::new(),
         }
     }

@@ -1,13 +1,13 @@
 ghost use Rattle.std.specs.Prelude.{◌≡◌, ◌<◌, length, replicate, Some, None, slice_index_or, slice_set};
 
+use roads::PLACES;
 use rows::ROWS;
 
 // The rows of a search, place by place: for each place the last row there, and for each row the last one before it at its place.
-// Fixed arrays of numbers, as a sweep allocates nothing: as many as a network may have places, and a table rows. The
-// number of places stands here as it stands in the clauses.
+// Fixed arrays of numbers, as a sweep allocates nothing: as many as a network may have places, and a table rows.
 #[derive(Drop)]
 pub(crate) struct Links {
-    last: [Option<u32>; 2048],
+    last: [Option<u32>; PLACES],
     prev: [Option<u32>; ROWS],
     ghost lasts: { length last ≡ 2048 },
     ghost prevs: { length prev ≡ 65536 },
@@ -19,7 +19,7 @@ impl Links {
         ensures { result.last ≡ replicate 2048 None }
     {
         Links {
-            last: [None; 2048],
+            last: [None; PLACES],
             prev: [None; ROWS],
         }
     }

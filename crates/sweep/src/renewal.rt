@@ -111,7 +111,7 @@ impl<A: Criterion, B: Criterion> Renewal<'_, A, B> {
         ensures kept { Kept (A.Criterion.meaning self.now.first.now) (B.Criterion.meaning self.now.second.now) self.now.place best.old.rows best.new.rows }
         ensures held { Held (A.Criterion.meaning self.now.first.now) (B.Criterion.meaning self.now.second.now) self.now.roads.now self.now.base self.now.rows.now best.new.rows (λ _ k. k < j + 1) self.now.place }
     {
-        // No `for`: the links lead from row to row.
+        // A `while`, and no `for` over `successors`: its closure would have to say the clauses of `before` again.
         let mut at = self.links.last_at(self.roads[j].start);
         while let Some(i) = at {
             self.try_row(best, i, j);

@@ -39,20 +39,12 @@ impl<A: Criterion, B: Criterion> Search<'_, A, B> {
         ensures { (n : ℕ) (best : List (Option (Row A.Value B.Value))) → slice_index_or best n None ≡ held → Chosen (A.Criterion.meaning self.now.first.now) (B.Criterion.meaning self.now.second.now) n best choice → Chosen (A.Criterion.meaning self.now.first.now) (B.Criterion.meaning self.now.second.now) (n + 1) best result }
     {
         match (choice, held) {
-            (Some(x), Some(y)) => {
-                if ahead(self.first, self.second, &x, &y) {
-                    Some(x)
-                } else {
-                    Some(y)
-                }
-            }
-            (Some(x), None) => Some(x),
-            (None, held) => held,
+            (Some(x), Some(y)) => Some(if ahead(self.first, self.second, &x, &y) { x } else { y }),
+            (choice, held) => choice.or(held),
         }
     }
 
-    // The best row that the places hold. Place by place, and not by `reduce`, as what is chosen among the first places is the fact that
-    // the loop keeps.
+    // The best row that the places hold. A `for`, and no `fold`: its closure would have to say the three clauses of `better` again.
     fn pick(&self, best: &Best<A::Value, B::Value>) -> Option<Row<A::Value, B::Value>>
         requires { self.now.places ≤ 2048 }
         ensures { Chosen (A.Criterion.meaning self.now.first.now) (B.Criterion.meaning self.now.second.now) self.now.places best.now.rows result }
@@ -114,6 +106,7 @@ impl<A: Criterion, B: Criterion> Search<'_, A, B> {
         if n as usize >= rows.len() {
             return Err(SweepFault::RowsFull);
         }
+        // Not by `get_mut`: the library says nothing of what that leaves in the table.
         rows[n as usize] = row;
         frontier.links.link(row.end, n);
         self.renew(frontier, rows, n, row.end);

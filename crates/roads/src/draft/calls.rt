@@ -5,9 +5,10 @@ ghost use Rattle.roads.specs.declared.fault.DraftFault.TheVariants.{ForeignTable
 use crate::road::open_all;
 use crate::{Draft, DraftFault, Network, Road, serves};
 
-// The most places and roads that a network may have.
-const PLACES: u32 = 2048;
+// The most places that a network may have.
+pub const PLACES: usize = 2048;
 
+// The most roads.
 const ROADS: u32 = 16384;
 
 // A closing that was refused: the draft as it was, and why.
@@ -34,7 +35,7 @@ impl Draft {
         ensures { Placed self.old result self.new }
     {
         let number = self.places;
-        if number >= PLACES {
+        if number as usize >= PLACES {
             return Err(DraftFault::PlacesFull);
         }
         self.places = number + 1;
@@ -88,6 +89,7 @@ impl Draft {
         if number >= ROADS || at >= table.len() {
             return Err(DraftFault::RoadsFull);
         }
+        // Not by `get_mut`: tried, and the library says nothing of what it leaves in the table.
         table[at] = road;
         self.roads = number + 1;
         Ok(number)

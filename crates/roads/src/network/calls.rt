@@ -59,7 +59,8 @@ impl Network {
         Ok(())
     }
 
-    // The table's entry of a road of this network.
+    // The table's entry of a road of this network. Its index, and not the entry by `get_mut`: the library says nothing of what that
+    // leaves in the table.
     fn find(&self, table: &[Road], road: u32) -> Result<usize, NetworkFault>
         ensures { Found self.now table.now road result }
     {
