@@ -1,12 +1,13 @@
 -- The rows of a place.
-use Rattle.std.specs.Prelude.{◌≡◌, ℕ, ◌+◌, ◌<◌, ◌≤◌, cond, List, [], ◌∷◌, map, length, take, drop, ◌==◌, slice_index_or}
+use Rattle.std.specs.Prelude.{ℕ, ◌+◌, ◌<◌, ◌≤◌, cond, List, [], ◌∷◌, map, take, drop, ◌==◌}
+use Rattle.trips.specs.Elements.{At}
 use Rattle.rows.specs.declared.row.Row.{Row}
 use Rattle.rows.specs.declared.sheet.Sheet.{Sheet}
 
 module _ {V W : Type 0} where
   -- the row at index i is r
   abbrev pub RowAt : List (Row V W) → ℕ → Row V W → Type 0
-  RowAt rows i r = (i < length rows) × ((d : Row V W) → slice_index_or rows i d ≡ r)
+  RowAt = At
 
   -- the values of a row
   abbrev pub pair_of : Row V W → V × W

@@ -1,14 +1,15 @@
 -- The rows of a sheet at a place, as pairs of values.
-use Rattle.std.specs.Prelude.{◌≡◌, ℕ, zero, suc, ◌+◌, ◌<◌, List, length, slice_index_or}
+use Rattle.std.specs.Prelude.{◌≡◌, ℕ, zero, suc, ◌+◌, ◌<◌, List, length}
 use Rattle.criteria.specs.Covers.{Covers, Precedes}
 use Rattle.criteria.specs.Meaning.{Meaning}
+use Rattle.trips.specs.Elements.{At}
 use Rattle.trips.specs.Plans.{Plan, Goes}
 use Rattle.trips.specs.Trips.{Use, worths}
 
 module _ {V W : Type 0} (a : Meaning V) (b : Meaning W) where
   -- the pair at index i
   abbrev pub PairAt : List (V × W) → ℕ → V × W → Type 0
-  PairAt pairs i p = (i < length pairs) × ((d : V × W) → slice_index_or pairs i d ≡ p)
+  PairAt = At
 
   -- pairs are the page of a plan at a place: each is that of a trip that ends there; each such trip is covered by one of them;
   -- and they stand best first criterion first, so that none covers another

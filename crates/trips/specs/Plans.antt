@@ -1,6 +1,7 @@
 -- What sheets are made by, and the trips of each.
-use Rattle.std.specs.Prelude.{◌≡◌, ℕ, ◌+◌, ◌-◌, ◌<◌, max, true, ◌⊎◌, List, [], ◌∷◌, ◌++◌, length, ◌≢◌, slice_index, slice_index_or}
+use Rattle.std.specs.Prelude.{◌≡◌, ℕ, ◌+◌, ◌-◌, ◌<◌, max, true, ◌⊎◌, List, [], ◌∷◌, ◌++◌, length, ◌≢◌, slice_index}
 use Rattle.roads.specs.declared.road.Road.{Road}
+use Rattle.trips.specs.Elements.{At}
 use Rattle.trips.specs.Trips.{Use}
 
 -- how a sheet came about
@@ -26,7 +27,7 @@ reach (pool a b) = max (reach a) (reach b)
 
 -- the road of number i is r
 abbrev pub Numbered : List Road → ℕ → Road → Type 0
-Numbered roads i r = (i < length roads) × ((d : Road) → slice_index_or roads i d ≡ r)
+Numbered = At
 
 -- r may be driven from s, as the use u says: it is an open road that starts at s, with the number and the marks of u
 pub record Drivable (roads : List Road) (s : ℕ) (u : Use) (r : Road) : Type 0 where
