@@ -32,6 +32,7 @@ impl Network {
         if mark >= 4 {
             return Err(NetworkFault::NoSuchMark);
         }
+        // Not by `get_mut`, as in `find`.
         table[at].marks[mark as usize] = value;
         Ok(())
     }
