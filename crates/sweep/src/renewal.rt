@@ -14,8 +14,9 @@ use rows::{Row, Source};
 // A search that has a row more, until its frontier is ready again: the criteria, the roads, the rows so far, which stand behind
 // `base` others in their table, their links, and the newest row and where it ends.
 // Its methods ask for Standing in their clauses: a ghost field must be a fact that has one proof at most, and the laws of a
-// criterion may have several. That an offered row ends below 2,048 stands in clauses too: a row's own type knows no bound. Four
-// of its fields are those of a Search, and not a Search, so that clauses name them shortly.
+// criterion may have several; between bars they would be one, and show nothing of what a place holds, which may have several too.
+// That an offered row ends below 2,048 stands in clauses too: a row's own type knows no bound. Four of its fields are those of a
+// Search, and not a Search, so that clauses name them shortly.
 #[derive(Drop)]
 pub(crate) struct Renewal<'s, A: Criterion, B: Criterion> {
     pub(crate) first: &'s A,

@@ -39,7 +39,11 @@ impl<A: Criterion, B: Criterion> Search<'_, A, B> {
         ensures { (n : ℕ) (best : List (Option (Row A.Value B.Value))) → slice_index_or best n None ≡ held → Chosen (A.Criterion.meaning self.now.first.now) (B.Criterion.meaning self.now.second.now) n best choice → Chosen (A.Criterion.meaning self.now.first.now) (B.Criterion.meaning self.now.second.now) (n + 1) best result }
     {
         match (choice, held) {
-            (Some(x), Some(y)) => Some(if ahead(self.first, self.second, &x, &y) { x } else { y }),
+            (Some(x), Some(y)) => Some(if ahead(self.first, self.second, &x, &y) {
+                x
+            } else {
+                y
+            }),
             (choice, held) => choice.or(held),
         }
     }
