@@ -3,7 +3,7 @@ use Rattle.std.specs.Prelude.{◌≡◌, ℕ, ◌-◌, ◌<◌, ◌≤◌, List,
 use Rattle.criteria.specs.Meaning.{Meaning}
 use Rattle.rows.specs.declared.row.Row.{Row}
 use Rattle.rows.specs.declared.sheet.Sheet.{Sheet}
-use Rattle.rows.specs.Places.{RowAt, rows_at, rows_of}
+use Rattle.rows.specs.Places.{RowAt, pairs_at, rows_at, rows_of}
 use Rattle.rows.specs.Sound.{Sound}
 use Rattle.book.specs.declared.book.Book.{Book}
 use Rattle.book.specs.declared.fault.PlannerFault.{PlannerFault}
@@ -31,6 +31,10 @@ module _ {A B V W : Type 0} where
   -- the rows of sheet s that end at place p
   abbrev pub rows_there : Book A B → List (Row V W) → ℕ → ℕ → List (Row V W)
   rows_there k rows s p = rows_at p (rows_of (sheet_of k s) rows)
+
+  -- their values
+  abbrev pub pairs_there : Book A B → List (Row V W) → ℕ → ℕ → List (V × W)
+  pairs_there k rows s p = pairs_at p (rows_of (sheet_of k s) rows)
 
   -- which refusal comes for place p of sheet s: the first that applies of a foreign table, no such sheet, and no such place
   abbrev pub PlaceRefused : Meaning V → Meaning W → Book A B → List (Row V W) → ℕ → ℕ → PlannerFault → Type 0

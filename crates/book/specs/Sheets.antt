@@ -1,5 +1,6 @@
 -- The sheets of a book, whose rows follow one another in the row table.
 use Rattle.std.specs.Prelude.{◌≡◌, ℕ, ◌+◌, ◌<◌, ◌≤◌, List, [], ◌∷◌, length, take, slice_index_or}
+use Rattle.criteria.specs.Meaning.{most_roads}
 use Rattle.rows.specs.declared.sheet.Sheet.{Sheet}
 
 -- how many rows the sheets have together
@@ -17,4 +18,4 @@ Rooted places sheets = (i : ℕ) (d : Sheet) → i < length sheets → (slice_in
 
 -- no row of a sheet may have more roads than a value is tested for
 abbrev pub Reaching : List Sheet → Type 0
-Reaching sheets = (i : ℕ) (d : Sheet) → i < length sheets → (slice_index_or sheets i d).reach ≤ 1048576
+Reaching sheets = (i : ℕ) (d : Sheet) → i < length sheets → (slice_index_or sheets i d).reach ≤ most_roads

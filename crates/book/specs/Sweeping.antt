@@ -1,11 +1,11 @@
 -- What a sweep of a book answers, and what it leaves.
-use Rattle.std.specs.Prelude.{◌≡◌, ℕ, ◌+◌, ◌-◌, ◌<◌, ◌≤◌, min, List, [], ◌∷◌, ◌++◌, map, length, take, Ok, Err, IfOk, Result}
-use Rattle.criteria.specs.Meaning.{Meaning}
+use Rattle.std.specs.Prelude.{◌≡◌, ℕ, ◌+◌, ◌-◌, ◌<◌, ◌≤◌, min, List, [], ◌∷◌, ◌++◌, length, take, Ok, Err, IfOk, Result}
+use Rattle.criteria.specs.Meaning.{Meaning, most_roads}
 use Rattle.roads.specs.Networks as network
 use Rattle.roads.specs.declared.road.Road.{Road}
 use Rattle.rows.specs.declared.row.Row.{Row}
 use Rattle.rows.specs.declared.sheet.Sheet.{Sheet}
-use Rattle.rows.specs.Places.{RowAt, pair_of, rows_of}
+use Rattle.rows.specs.Places.{RowAt, rows_of}
 use Rattle.sweep.specs.Sweeps.{plan_of, Crowded, MayStand, StandsFor, Swept}
 use Rattle.sweep.specs.declared.sweeping.SweepFault.{SweepFault}
 use Rattle.trips.specs.Pages.{Page, Rows}
@@ -13,7 +13,7 @@ use Rattle.book.specs.declared.added.Added.{Added}
 use Rattle.book.specs.declared.book.Book.{Book}
 use Rattle.book.specs.declared.fault.PlannerFault.{PlannerFault}
 use Rattle.book.specs.declared.fault.PlannerFault.TheVariants.{NoSuchPlace, NoSuchSheet, NoSuchRow, SheetsFull, RowsFull, NoTrip, ForeignTable}
-use Rattle.book.specs.Reading.{Serving, count_of, rows_there}
+use Rattle.book.specs.Reading.{Serving, count_of, pairs_there}
 
 -- the sheet of a sweep from an origin that has so many rows: its reach is the number of places less one, and its rows follow those in use
 abbrev pub swept_sheet : {A B : Type 0} → Book A B → ℕ → ℕ → Sheet
@@ -25,7 +25,7 @@ pub record MayFollow {A B : Type 0} (k : Book A B) (s : Sheet) : Type 0 where
   pub start : s.start ≡ k.used
   pub few : k.used + s.len ≤ 65536
   pub origin : s.origin < k.network.places
-  pub reach : s.reach ≤ 1048576
+  pub reach : s.reach ≤ most_roads
 
 -- the book k' is k with one sheet more
 pub record OneMore {A B : Type 0} (k k' : Book A B) (s : Sheet) : Type 0 where
@@ -69,7 +69,7 @@ module _ {A B V W : Type 0} (a : Meaning V) (b : Meaning W) where
     -- the rows in use are as they were
     pub before : take k.used rows' ≡ take k.used rows
     -- at each place the new sheet's rows are the page of the sweep over the roads as they stand
-    pub pages : (p : ℕ) → Page a b (plan_of a b k.network roads origin) p (map pair_of (rows_there k' rows' added.sheet p))
+    pub pages : (p : ℕ) → Page a b (plan_of a b k.network roads origin) p (pairs_there k' rows' added.sheet p)
     -- each of them stands for a trip that visits no place twice
     pub each : (i : ℕ) (r : Row V W) → RowAt (rows_of (swept_sheet k origin added.rows) rows') i r → StandsFor a b k.network roads origin rows' (k.used + i) r
     -- the tables serve the book again

@@ -10,7 +10,7 @@ pub mod reading;
 pub mod sweeping;
 
 // The sheets of a planner over one network, judged by two criteria. Their rows stand in the caller's row table, of which `used` are
-// in use: the sum of the sheets' lengths, so that no call adds them up.
+// in use: the sum of the sheets' lengths. A field, though the last sheet's end tells it too: the contracts of public calls name it.
 #[derive(Drop)]
 pub struct Book<A, B> {
     pub(crate) network: Network,

@@ -7,6 +7,7 @@ use criteria::{Sum, SumValue};
 use rows::Row;
 
 // The row with the least sum, and on a tie the least second sum.
+// A function apart from `least_sums_then_peak`: its book is of another type, and its contract says another optimum.
 pub fn least_sums<'r>(
     book: &Book<Sum, Sum>,
     rows: &'r [Row<SumValue, SumValue>],

@@ -3,4 +3,4 @@
 
 mod line;
 
-pub use line::{Line, fill, write_line};
+pub use line::{LINE, Line, fill, write_line};

@@ -4,6 +4,9 @@ ghost use Rattle.lines.specs.Text.{text};
 
 use arrayvec::ArrayString;
 
+// The bytes of the table that a line is written to; the longest line has 43.
+pub const LINE: usize = 48;
+
 // One line of a report.
 #[derive(Clone, Copy, Debug, PartialEq, Eq)]
 pub enum Line {
@@ -20,7 +23,7 @@ pub enum Line {
 impl Line {
     // The text of the line, line feed included.
     #[tactic(auto, using(crate::proofs::Digits::length_decimal_32, crate::proofs::Digits::length_decimal_64))]
-    pub fn text(self) -> ArrayString<48>
+    pub fn text(self) -> ArrayString<LINE>
         ensures bytes { result.bytes ≡ text self }
         ensures fits { length (text self) ≤ 48 }
     {
@@ -53,7 +56,7 @@ impl Line {
 }
 
 // Two numbers, with texts before, between and after them. Not by `write!`: it may answer an error, and a line always fits.
-fn pair(before: &str, first: u64, between: &str, second: u64, after: &str) -> ArrayString<48>
+fn pair(before: &str, first: u64, between: &str, second: u64, after: &str) -> ArrayString<LINE>
     requires { length before.now + length (decimal first) + length between.now + length (decimal second) + length after.now ≤ 48 }
     ensures { result.bytes ≡ before.now ++ decimal first ++ between.now ++ decimal second ++ after.now }
 {
@@ -68,7 +71,7 @@ fn pair(before: &str, first: u64, between: &str, second: u64, after: &str) -> Ar
 
 // The text of a row that has no limit.
 #[tactic(auto, using(crate::proofs::Digits::length_decimal_64))]
-fn without_limit(time: u64) -> ArrayString<48>
+fn without_limit(time: u64) -> ArrayString<LINE>
     ensures { result.bytes ≡ decimal time ++ codes " -\n" }
 {
     let mut text = ArrayString::new();
@@ -78,7 +81,7 @@ fn without_limit(time: u64) -> ArrayString<48>
 }
 
 // Appends the decimal digits of `n`. By hand: `write!` may answer an error, and digits copied from a buffer are no plainer.
-fn push_number(text: &mut ArrayString<48>, n: u64)
+fn push_number(text: &mut ArrayString<LINE>, n: u64)
     requires { array_string_len text.old + length (decimal n) ≤ 48 }
     ensures { text.new.bytes ≡ text.old.bytes ++ decimal n }
 {
@@ -96,7 +99,7 @@ fn last_digit(n: u64) -> u8
 }
 
 // Fills the table with the text, and zeros after it; tells the text's length.
-// The caller's table and a length, and not a text: nothing is allocated, and the promise says every byte of the table.
+// The public call stays: its caller has the table, and the promise says every byte of it.
 pub fn fill<const N: usize>(table: &mut [u8; N], text: &ArrayString<N>) -> usize
     ensures length { result ≡ length text.now.bytes }
     ensures bytes { table.new ≡ text.now.bytes ++ replicate (N - length text.now.bytes) 0 }
@@ -109,8 +112,8 @@ pub fn fill<const N: usize>(table: &mut [u8; N], text: &ArrayString<N>) -> usize
 }
 
 // Fills the table with the line, line feed included, and zeros after it; tells the line's length.
-// The caller's table and a length, as in `fill`.
-pub fn write_line(line: Line, table: &mut [u8; 48]) -> usize
+// The public call stays: its caller has the table, and the promise says every byte of it.
+pub fn write_line(line: Line, table: &mut [u8; LINE]) -> usize
     ensures length { result ≡ length (text line) }
     ensures bytes { table.new ≡ text line ++ replicate (48 - length (text line)) 0 }
     ensures fits { length (text line) ≤ 48 }
@@ -124,7 +127,7 @@ mod tests {
 
     #[test]
     fn place(rt: HostRuntime) {
-        let mut table = [255; 48];
+        let mut table = [255; LINE];
         let length = write_line(Line::Place { place: 3, rows: 3 }, &mut table);
         assert_eq!(rt; length, 15);
         assert_eq!(rt; &table[0..15], b"place 3 rows 3\n".as_slice());
@@ -133,7 +136,7 @@ mod tests {
 
     #[test]
     fn longest(rt: HostRuntime) {
-        let mut table = [255; 48];
+        let mut table = [255; LINE];
         let length = write_line(
             Line::Refused {
                 number: u32::MAX,

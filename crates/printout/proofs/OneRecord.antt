@@ -65,4 +65,4 @@ one_record_lem unique outcome file t u m n x y =
     let same = says_same unique outcome file x.out y.out x.says y.says in
     let v = x.written in
     let w = y.written in
-    (v.bytes ∙ ap (λ l. l ++ replicate (147456 - length l) 0) same ∙ sym w.bytes, v.size ∙ ap length same ∙ sym w.size)
+    (v.bytes ∙ ap (λ l. l ++ replicate (147456 - length l) 0) same ∙ sym w.bytes, v.count ∙ ap length same ∙ sym w.count)

@@ -1,7 +1,7 @@
 -- What the sweep of a new book over the record's tables comes to.
-use Rattle.std.proofs.Common.{[], ◌∙◌, ◌≡◌, ℕ, ◌<◌, ◌≤◌, List, map, length, refl, ap, subst, arith}
+use Rattle.std.proofs.Common.{[], ◌∙◌, ◌≡◌, ℕ, ◌<◌, ◌≤◌, List, length, refl, ap, subst, arith}
 use Rattle.book.specs.Faults.{planner_number}
-use Rattle.book.specs.Reading.{rows_there}
+use Rattle.book.specs.Reading.{pairs_there}
 use Rattle.book.specs.Sweeping.{Entered, Served, SweepRefused, unused}
 use Rattle.book.specs.declared.added.Added.{Added}
 use Rattle.book.specs.declared.book.Book.{Book}
@@ -18,12 +18,11 @@ use Rattle.lines.specs.declared.line.Line.TheVariants as line
 use Rattle.roads.specs.Networks as network
 use Rattle.roads.specs.declared.network.Network.{Network}
 use Rattle.roads.specs.declared.road.Road.{Road}
-use Rattle.rows.specs.Places.{pair_of}
 use Rattle.rows.specs.declared.row.Row.{Row}
 use Rattle.sweep.specs.Sweeps.{plan_of, Crowded}
 use Rattle.trips.specs.Efficient.{UniqueRows}
 use Rattle.trips.specs.Pages.{Page, Rows, all_rows}
-use Rattle.printout.specs.Record.{CrowdedOut, Listed, Pair, by_load, places_text, by_time}
+use Rattle.printout.specs.Record.{CrowdedOut, Listed, by_load, places_text, by_time}
 
 -- a new book on the network n, by the record's criteria, over a table of 1,024 rows
 pub record New (n : Network) (k : Book Sum Limit) (rows : List (Row SumValue LimitValue)) : Type 0 where
@@ -39,28 +38,24 @@ module _ (n : Network) (roads : List Road) (k : Book Sum Limit) (rows : List (Ro
   room_is = omega (arith, new.long, new.unused_all)
 
   module _ (k' : Book Sum Limit) (rows' : List (Row SumValue LimitValue)) (added : Added) (e : Entered (sum_meaning k.first.column.index) (limit_meaning k.second.column.index) k k' roads rows rows' 0 added) where
-    -- what is read of the first sheet
-    abbrev pub pages : ℕ → List Pair
-    pages p = map pair_of (rows_there k' rows' 0 p)
-
     -- by the record's criteria
     e' : Entered by_time by_load k k' roads rows rows' 0 added
     e' = subst (λ j. Entered by_time (limit_meaning j) k k' roads rows rows' 0 added) new.second (subst (λ i. Entered (sum_meaning i) (limit_meaning k.second.column.index) k k' roads rows rows' 0 added) new.first e)
 
-    page : (p : ℕ) → Page by_time by_load (plan_of by_time by_load k.network roads 0) p (pages p)
+    page : (p : ℕ) → Page by_time by_load (plan_of by_time by_load k.network roads 0) p (pairs_there k' rows' 0 p)
     page p = let first : added.sheet ≡ 0 = e.sheet ∙ ap length new.empty in rw first at e'.pages p
 
     module _ (unique : UniqueRows by_time by_load) where
       -- all places together have at most 1,024 rows
-      pub few : all_rows by_time by_load pages n.places ≤ 1024
+      pub few : all_rows by_time by_load (pairs_there k' rows' 0) n.places ≤ 1024
       few =
-          let count : all_rows by_time by_load pages k.network.places ≡ added.rows = unique k.network.places (plan_of by_time by_load k.network roads 0) _ _ (record { pages = pages; each = λ p lt. page p; count = refl }) e'.number in
-          subst (λ x. all_rows by_time by_load pages x.places ≤ 1024) new.network (omega (arith, count, e.fits, room_is))
+          let count : all_rows by_time by_load (pairs_there k' rows' 0) k.network.places ≡ added.rows = unique k.network.places (plan_of by_time by_load k.network roads 0) _ _ (record { pages = pairs_there k' rows' 0; each = λ p lt. page p; count = refl }) e'.number in
+          subst (λ x. all_rows by_time by_load (pairs_there k' rows' 0) x.places ≤ 1024) new.network (omega (arith, count, e.fits, room_is))
 
-      pub listed : Listed n roads (places_text pages n.places)
+      pub listed : Listed n roads (places_text (pairs_there k' rows' 0) n.places)
       listed = record {
-        pages = pages;
-        each = λ p lt. subst (λ x. Page by_time by_load (plan_of by_time by_load x roads 0) p (pages p)) new.network (page p);
+        pages = pairs_there k' rows' 0;
+        each = λ p lt. subst (λ x. Page by_time by_load (plan_of by_time by_load x roads 0) p (pairs_there k' rows' 0 p)) new.network (page p);
         room = few;
         lines = refl;
       }

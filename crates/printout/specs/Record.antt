@@ -1,5 +1,5 @@
 -- The whole record of a road file: each place with the rows of its page, or the refusal.
-use Rattle.std.specs.Prelude.{◌≡◌, ℕ, zero, suc, ◌-◌, ◌<◌, ◌≤◌, false, ◌⊎◌, List, [], ◌∷◌, ◌++◌, length, replicate, Some, None, Ok, Err, Option, Result}
+use Rattle.std.specs.Prelude.{◌≡◌, ℕ, zero, suc, ◌<◌, ◌≤◌, false, ◌⊎◌, List, [], ◌∷◌, ◌++◌, length, replicate, Some, None, Ok, Err, Option, Result}
 use Rattle.arrayvec.specs.ArrayString.{ArrayString}
 use Rattle.criteria.specs.Limit.{limit_meaning}
 use Rattle.criteria.specs.Meaning.{Meaning}
@@ -10,12 +10,14 @@ use Rattle.criteria.specs.declared.sum.SumValue.{SumValue}
 use Rattle.roads.specs.declared.network.Network.{Network}
 use Rattle.roads.specs.declared.road.Road.{Road}
 use Rattle.roadfile.specs.declared.fault.LoadFault.{LoadFault}
-use Rattle.roadfile.specs.Faults.{file_number}
 use Rattle.roadfile.specs.Loading.{Loaded}
 use Rattle.sweep.specs.Sweeps.{plan_of, Crowded}
 use Rattle.trips.specs.Pages.{Pages, Rows, all_rows}
 use Rattle.lines.specs.declared.line.Line.TheVariants as line
 use Rattle.lines.specs.Text.{text}
+use Rattle.lines.specs.Written.{Written}
+use Rattle.report.specs.Reading.{refusal_line}
+use Rattle.report.specs.declared.refusal.Refusal.TheVariants.{TooLong, Fault}
 use Rattle.printout.specs.Faults.{text_told}
 use Rattle.printout.specs.declared.fault.RecordFault.{RecordFault}
 
@@ -70,7 +72,7 @@ pub record CrowdedOut (n : Network) (roads : List Road) (out : List ℕ) : Type 
 -- the text for what a loading answered, where it left the road table so
 abbrev pub Answered : Result Network LoadFault → List Road → List ℕ → Type 0
 Answered (Ok n) roads out = Listed n roads out ⊎ CrowdedOut n roads out
-Answered (Err f) roads out = out ≡ text (line.Refused (file_number f.fault) f.offset)
+Answered (Err f) roads out = out ≡ text (refusal_line (Fault f))
 
 -- an entry of the record's road table before a file is loaded
 abbrev pub blank : Road
@@ -85,13 +87,7 @@ pub record Loads (file out : List ℕ) : Type 0 where
 
 -- the text that a road file comes to: a file above 65,536 bytes is refused by 21 before it is read
 abbrev pub Says : List ℕ → List ℕ → Type 0
-Says file out = ((65536 < length file) × (out ≡ text (line.Refused 21 0))) ⊎ ((length file ≤ 65536) × Loads file out)
-
--- the table, of 147,456 bytes, holds the text in its first n bytes, and zeros behind it
-pub record Written (out : List ℕ) (n : ℕ) (table : List ℕ) : Type 0 where
-  pub size : n ≡ length out
-  pub fits : n ≤ 147456
-  pub bytes : table ≡ out ++ replicate (147456 - length out) 0
+Says file out = ((65536 < length file) × (out ≡ text (refusal_line TooLong))) ⊎ ((length file ≤ 65536) × Loads file out)
 
 -- the lines of every place, or the line of a fault, are the text for what a loading answered
 abbrev pub Noted : Result Network LoadFault → List Road → Result ArrayString RecordFault → Type 0
@@ -101,7 +97,7 @@ Noted answer roads told = Answered answer roads (text_told told)
 pub record Told (file table : List ℕ) (n : ℕ) : Type 0 where
   pub out : List ℕ
   pub says : Says file out
-  pub written : Written out n table
+  pub written : Written 147456 out n table
 
 -- a file has one record: one text and one length
 abbrev pub OneRecord : Type 0

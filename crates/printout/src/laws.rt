@@ -1,9 +1,12 @@
 ghost use Rattle.printout.specs.Record.{OneRecord, by_load, by_time};
 ghost use Rattle.trips.specs.SamePages.{UniquePage};
 
+use crate::record::{LOAD, TIME};
 use criteria::{Limit, Sum};
 use roadfile::one_outcome;
 use trips::pages_are_unique;
+
+// The functions are theorems: their bodies only bring laws, and the contract is the statement.
 
 // A road file has one record.
 pub fn one_record()
@@ -18,7 +21,7 @@ pub fn one_record()
 fn one_page()
     ensures { UniquePage by_time by_load }
 {
-    let time = Sum::new(0).unwrap();
-    let load = Limit::new(2).unwrap();
+    let time = Sum::new(TIME).unwrap();
+    let load = Limit::new(LOAD).unwrap();
     pages_are_unique(&time, &load);
 }

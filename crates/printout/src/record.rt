@@ -21,12 +21,12 @@ pub const RECORD: usize = 147456;
 // The rows of the table that is swept into.
 const ROWS: usize = 1024;
 // The mark that is a road's time.
-const TIME: u32 = 0;
+pub(crate) const TIME: u32 = 0;
 // The mark that is its limit.
-const LOAD: u32 = 2;
+pub(crate) const LOAD: u32 = 2;
 
 // Fills the table with the record of a road file, and zeros after it; tells the record's length.
-// The caller's table and a length, as in `fill` of `lines`.
+// The public call stays: its caller has the table, and the promise says every byte of it.
 pub fn write_record(file: &[u8], table: &mut [u8; RECORD]) -> usize
     ensures { Told file.now table.new result }
 {
@@ -37,10 +37,7 @@ pub fn write_record(file: &[u8], table: &mut [u8; RECORD]) -> usize
 fn record_of(file: &[u8]) -> ArrayString<RECORD>
     ensures { Says file.now result.bytes }
 {
-    match places_of(file) {
-        Ok(places) => places,
-        Err(fault) => one_line(Line::from(fault)),
-    }
+    places_of(file).unwrap_or_else(|fault| one_line(Line::from(fault)))
 }
 
 // A record of one line.

@@ -4,6 +4,6 @@
 mod record;
 mod refusal;
 
-pub use lines::{Line, write_line};
+pub use lines::{LINE, Line, write_line};
 pub use record::{BLANK, FILE, ROADS, network_of, write_record};
 pub use refusal::Refusal;

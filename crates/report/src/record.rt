@@ -3,7 +3,7 @@ ghost use Rattle.report.specs.Reading.{NetworkOf};
 ghost use Rattle.report.specs.Record.{Says, Told};
 
 use crate::Refusal;
-use lines::{Line, write_line};
+use lines::{LINE, Line, write_line};
 use roadfile::load;
 use roads::{Network, Road};
 
@@ -33,18 +33,18 @@ pub fn network_of(file: &[u8], table: &mut [Road; ROADS]) -> Result<Network, Ref
 fn line_of(file: &[u8]) -> Line
     ensures { Says file.now result }
 {
-    match network_of(file, &mut [BLANK; ROADS]) {
-        Ok(network) => Line::Loaded {
+    network_of(file, &mut [BLANK; ROADS]).map_or_else(
+        Line::from,
+        |network| Line::Loaded {
             places: network.places(),
             roads: network.roads(),
         },
-        Err(refusal) => Line::from(refusal),
-    }
+    )
 }
 
 // Fills the table with the record of a road file, and zeros after it; tells the record's length.
-// The caller's table and a length, as in `fill` of `lines`.
-pub fn write_record(file: &[u8], table: &mut [u8; 48]) -> usize
+// The public call stays: its caller has the table, and the promise says every byte of it.
+pub fn write_record(file: &[u8], table: &mut [u8; LINE]) -> usize
     ensures { Told file.now table.new result }
 {
     write_line(line_of(file), table)

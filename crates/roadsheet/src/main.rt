@@ -3,7 +3,7 @@
 
 ghost use Rattle.std.specs.Prelude.{◌≤◌, length, IfOk};
 
-use report::{FILE, write_record};
+use report::{FILE, LINE, write_record};
 use std::io;
 use std::io::{Read, Write};
 
@@ -30,7 +30,7 @@ fn fill<R: Read>(input: &mut R, table: &mut [u8]) -> io::Result<usize>
 fn main(rt: HostRuntime) -> io::Result<()> {
     let mut file = [0; LOOK];
     let size = fill(&mut rt.stdin(), &mut file)?;
-    let mut line = [0; 48];
+    let mut line = [0; LINE];
     let length = write_record(&file[..size], &mut line);
     rt.stdout().write_all(&line[..length])
 }

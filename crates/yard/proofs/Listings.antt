@@ -1,6 +1,6 @@
 -- What a sweep of a book on the yard answers.
-use Rattle.std.proofs.Common.{◌≡◌, ℕ, ◌<◌, List, map, length, get_or, take, Ok, sym, refl, ap, ◌∙◌, subst, rules, arith}
-use Rattle.book.specs.Reading.{Serving, rows_there}
+use Rattle.std.proofs.Common.{◌≡◌, ℕ, ◌<◌, List, length, get_or, take, Ok, sym, refl, ap, ◌∙◌, subst, rules, arith}
+use Rattle.book.specs.Reading.{Serving, pairs_there}
 use Rattle.std.proofs.lemmas.List.{length_push}
 use Rattle.book.specs.Sweeping.{Served, Entered, SweepRefused, swept_sheet, unused}
 use Rattle.book.specs.declared.added.Added.{Added}
@@ -14,7 +14,6 @@ use Rattle.criteria.specs.declared.limit.LimitValue.{LimitValue}
 use Rattle.criteria.specs.declared.sum.Sum.{Sum}
 use Rattle.criteria.specs.declared.sum.SumValue.{SumValue}
 use Rattle.roads.specs.declared.road.Road.{Road}
-use Rattle.rows.specs.Places.{pair_of}
 use Rattle.rows.specs.declared.row.Row.{Row}
 use Rattle.sweep.specs.Sweeps.{plan_of}
 use Rattle.trips.specs.Pages.{Page, Rows}
@@ -72,11 +71,11 @@ module _ (k : Book Sum Limit) (roads : List Road) (rows : List (Row SumValue Lim
     sheet_is : added.sheet ≡ 0
     sheet_is = h.sheet ∙ o.count
 
-    lists : (p : ℕ) → map pair_of (rows_there k' rows' 0 p) ≡ listed p
+    lists : (p : ℕ) → pairs_there k' rows' 0 p ≡ listed p
     lists p =
-        let pairs = map pair_of (rows_there k' rows' added.sheet p) in
+        let pairs = pairs_there k' rows' added.sheet p in
         let page = moved (λ i j n P. Page (sum_meaning i) (limit_meaning j) P p pairs) (h.pages p) in
-        ap (λ s. map pair_of (rows_there k' rows' s p)) (sym sheet_is) ∙ unique_page time.laws load.laws (sweep_from 0) p pairs (listed p) page (table.pages p)
+        ap (λ s. pairs_there k' rows' s p) (sym sheet_is) ∙ unique_page time.laws load.laws (sweep_from 0) p pairs (listed p) page (table.pages p)
 
     serving : Serving (by_time k') (by_load k') k' rows'
     serving =

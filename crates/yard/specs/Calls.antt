@@ -1,6 +1,6 @@
 -- What the calls on the yard answer.
-use Rattle.std.specs.Prelude.{◌≡◌, ℕ, ◌<◌, ◌≤◌, cond, List, map, length, Ok, Err, Result, nat_lt, slice_index_or}
-use Rattle.book.specs.Reading.{Serving, count_of, rows_there}
+use Rattle.std.specs.Prelude.{◌≡◌, ℕ, ◌<◌, ◌≤◌, cond, List, length, Ok, Err, Result, nat_lt, slice_index_or}
+use Rattle.book.specs.Reading.{Serving, count_of, pairs_there}
 use Rattle.book.specs.declared.added.Added.{Added}
 use Rattle.book.specs.declared.book.Book.{Book}
 use Rattle.book.specs.declared.fault.PlannerFault.{PlannerFault}
@@ -13,7 +13,6 @@ use Rattle.criteria.specs.declared.limit.LimitValue.{LimitValue}
 use Rattle.criteria.specs.declared.sum.Sum.{Sum}
 use Rattle.criteria.specs.declared.sum.SumValue.{SumValue}
 use Rattle.roads.specs.declared.road.Road.{Road}
-use Rattle.rows.specs.Places.{pair_of}
 use Rattle.rows.specs.declared.row.Row.{Row}
 use Rattle.yard.specs.Building.{Built}
 use Rattle.yard.specs.Table.{timed, listed}
@@ -43,7 +42,7 @@ pub record Listing (k : Book Sum Limit) (rows : List (Row SumValue LimitValue)) 
   pub places : k.network.places ≡ 4
   pub count : count_of k ≡ 1
   pub serving : Serving (by_time k) (by_load k) k rows
-  pub lists : (p : ℕ) → map pair_of (rows_there k rows 0 p) ≡ listed p
+  pub lists : (p : ℕ) → pairs_there k rows 0 p ≡ listed p
 
 -- the sheet that the sweep of the yard adds
 abbrev pub first_sheet : Added

@@ -38,8 +38,7 @@ pub fn sweep_yard(
 ) -> Result<Added, PlannerFault>
     ensures { result ≡ swept_into (length rows.old) }
 {
-    let (_, added) = list(frontier, rows)?;
-    Ok(added)
+    list(frontier, rows).map(|(_, added)| added)
 }
 
 // The time and the limit of the row of that index at the place, of the sweep from place 0.

@@ -10,7 +10,8 @@ pub loop-index-preserved : goal.loop-index-preserved
 loop-index-preserved c =
     let rows = rows_at c.args.self.now c.args.place in
     let i = c.loop-index.index in
-    let (x, at) = row_exists rows i (omega (arith, c.in-Ok.ensures.1)) in (
+    let (_, count) = rw c.unwrap-count.ensures at c.count.ensures in
+    let (x, at) = row_exists rows i (omega (arith, count)) in (
       omega arith,
       c.push_row.ensures.written x at ∙ ap (λ l. l ++ row_text (pair_of x)) c.loop-index.invariant.1 ∙ row_more rows i x c.push_line.new.output.bytes at,
     )
