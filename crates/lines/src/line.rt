@@ -127,7 +127,7 @@ mod tests {
 
     #[test]
     fn place(rt: HostRuntime) {
-        let mut table = [255; LINE];
+        let mut table = [255; 48];
         let length = write_line(Line::Place { place: 3, rows: 3 }, &mut table);
         assert_eq!(rt; length, 15);
         assert_eq!(rt; &table[0..15], b"place 3 rows 3\n".as_slice());
@@ -136,7 +136,7 @@ mod tests {
 
     #[test]
     fn longest(rt: HostRuntime) {
-        let mut table = [255; LINE];
+        let mut table = [255; 48];
         let length = write_line(
             Line::Refused {
                 number: u32::MAX,
