@@ -31,7 +31,8 @@ impl PlannerFault {
     }
 }
 
-// A refusal of the sweep over slices, as the book tells it.
+// A refusal of the sweep over slices, as the book tells it. Case by case: the two enums are of two crates, and the clause says which
+// each becomes.
 impl From<SweepFault> for PlannerFault {
     ghost from_gives = { λ f r. r ≡ told f };
 

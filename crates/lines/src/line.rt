@@ -99,7 +99,7 @@ fn last_digit(n: u64) -> u8
 }
 
 // Fills the table with the text, and zeros after it; tells the text's length.
-// The public call stays: its caller has the table, and the promise says every byte of it.
+// A table and its length, and not a text: the public calls stay, and promise every byte of their caller's table.
 pub fn fill<const N: usize>(table: &mut [u8; N], text: &ArrayString<N>) -> usize
     ensures length { result ≡ length text.now.bytes }
     ensures bytes { table.new ≡ text.now.bytes ++ replicate (N - length text.now.bytes) 0 }
@@ -112,7 +112,7 @@ pub fn fill<const N: usize>(table: &mut [u8; N], text: &ArrayString<N>) -> usize
 }
 
 // Fills the table with the line, line feed included, and zeros after it; tells the line's length.
-// The public call stays: its caller has the table, and the promise says every byte of it.
+// A table and a length, as in `fill`.
 pub fn write_line(line: Line, table: &mut [u8; LINE]) -> usize
     ensures length { result ≡ length (text line) }
     ensures bytes { table.new ≡ text line ++ replicate (48 - length (text line)) 0 }

@@ -6,7 +6,7 @@ use criteria::{Limit, Sum};
 use roadfile::one_outcome;
 use trips::pages_are_unique;
 
-// The functions are theorems: their bodies only bring laws, and the contract is the statement.
+// Each function is a theorem: its contract is the statement, and its body brings laws; `one_page` makes the criteria too.
 
 // A road file has one record.
 pub fn one_record()

@@ -9,24 +9,24 @@ use crate::sheet::{FirstSheet, push_line};
 use arrayvec::ArrayString;
 use book::Book;
 use criteria::{Limit, LimitValue, Sum, SumValue};
-use lines::{Line, fill};
+use lines::{LINE, Line, fill};
 use report::{BLANK, ROADS, network_of};
-use roads::{Network, Road};
+use roads::{Network, PLACES, Road};
 use rows::Row;
 use sweep::Frontier;
 use trips::rows_are_counted;
 
-// The bytes of the table that a record is written to: 48 for each of 2,048 places and 1,024 rows.
-pub const RECORD: usize = 147456;
 // The rows of the table that is swept into.
 const ROWS: usize = 1024;
+// The bytes of the table that a record is written to: a line for each place that a network may have, and for each row.
+pub const RECORD: usize = LINE * (PLACES + ROWS);
 // The mark that is a road's time.
 pub(crate) const TIME: u32 = 0;
 // The mark that is its limit.
 pub(crate) const LOAD: u32 = 2;
 
 // Fills the table with the record of a road file, and zeros after it; tells the record's length.
-// The public call stays: its caller has the table, and the promise says every byte of it.
+// A table and a length, as in `fill` of `lines`.
 pub fn write_record(file: &[u8], table: &mut [u8; RECORD]) -> usize
     ensures { Told file.now table.new result }
 {

@@ -1,4 +1,3 @@
-ghost use Rattle.std.specs.Prelude.{◌≡◌, ◌≤◌, length};
 ghost use Rattle.report.specs.Reading.{NetworkOf};
 ghost use Rattle.report.specs.Record.{Says, Told};
 
@@ -43,7 +42,7 @@ fn line_of(file: &[u8]) -> Line
 }
 
 // Fills the table with the record of a road file, and zeros after it; tells the record's length.
-// The public call stays: its caller has the table, and the promise says every byte of it.
+// A table and a length, as in `fill` of `lines`.
 pub fn write_record(file: &[u8], table: &mut [u8; LINE]) -> usize
     ensures { Told file.now table.new result }
 {

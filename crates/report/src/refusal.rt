@@ -5,8 +5,8 @@ ghost use Rattle.report.specs.declared.refusal.Refusal.TheVariants.{Fault};
 use lines::Line;
 use roadfile::LoadFault;
 
-// The number of a file that is too long. It stands apart from its case: the other carries a fault with a number of its own, so that
-// the two cannot both have a discriminant.
+// The number of a file that is too long. It stands apart from its case: an enum with a case that carries a value can have no
+// discriminants.
 const TOO_LONG: u32 = 21;
 
 // Why there is no network for a road file.

@@ -10,7 +10,7 @@ use criteria::LimitValue;
 // The gross masses of classes 0 to 11, in hundreds of kilograms.
 const MASSES: [u32; 12] = [35, 80, 120, 160, 185, 225, 260, 305, 360, 425, 500, 680];
 
-// The masses rise from class to class.
+// A theorem, which the class choice uses: the masses rise from class to class.
 fn masses_rise()
     ensures { StrictlyRising masses }
 {}

@@ -13,6 +13,7 @@ pub(crate) enum Kind {
     Remark,
 }
 
+// By hand: std derives no `TryFrom` of a number.
 impl TryFrom<u8> for Kind {
     type Error = FileFault;
 

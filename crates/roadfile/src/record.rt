@@ -1,4 +1,4 @@
-ghost use Rattle.std.specs.Prelude.{◌≡◌, ◌≤◌, ◌∷◌, length, Decides};
+ghost use Rattle.std.specs.Prelude.{◌≡◌, ◌≤◌, ◌∷◌, length};
 ghost use Rattle.roadfile.specs.Format.{written, entry, ends, Proper, Allowed};
 ghost use Rattle.roadfile.specs.Kinds.{code_of};
 ghost use Rattle.roadfile.specs.Reading.{Begins};

@@ -2,18 +2,11 @@
 use Rattle.std.proofs.Common.{◌≡◌, ℕ, zero, suc, ◌+◌, ◌-◌, ◌≤◌, true, false, cond, List, [], ◌∷◌, map, length, Some, None, Option, option_map, MatchOption, filter, nat_eq, slice_get, sym, refl, ap, ◌∙◌, subst, ⊎_elim, arith}
 use lib.ListN.{length-map}
 use Rattle.std.specs.List.{enumerate_from, last_or}
-use Rattle.std.specs.Option.{IsSomeAnd}
 use Rattle.std.proofs.lemmas.List.{get_or_default}
 use Rattle.std.proofs.lemmas.Option.{none-some, same_Some, slice_get_cases}
 use Rattle.rows.specs.declared.row.Row.{Row}
 use Rattle.rows.specs.Places.{RowAt, rows_at, Position}
 use Rattle.rows.proofs.Filter.{at_tail}
-
--- what is known of an answer, of what it is mapped to
-pub mapped : {A B : Type 0} (N : Type 0) (P : A → Type 0) (Q : B → Type 0) (F : A → B → Type 0) (o : Option A) (r : Option B) → MatchOption o (r ≡ None) (λ x. IsSomeAnd r (F x)) → MatchOption o N P → ((x : A) (y : B) → F x y → P x → Q y) → MatchOption r N Q
-mapped N P Q F None r e n h = subst (λ o. MatchOption o N Q) (sym e) n
-mapped N P Q F (Some x) (Some y) f p h = h x y f p
-mapped N P Q F (Some x) None f p h = absurd f
 
 module _ {V W : Type 0} (place : ℕ) where
   -- the rows of the place are those that pass the test

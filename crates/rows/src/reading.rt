@@ -16,7 +16,7 @@ pub fn count_at<X, Y>(table: &[Row<X, Y>], sheet: &Sheet, place: u32) -> u32
 pub fn find_at<X, Y>(table: &[Row<X, Y>], sheet: &Sheet, place: u32, index: u32) -> Option<usize>
     ensures { MatchOption result (length (rows_at place (rows_of sheet.now table.now)) ≤ index) (λ k. StandsAt table.now sheet.now place index k) }
 {
-    // By `?` and not `map`: its closure would need two clauses, that the sum fits and which it is.
+    // By `?`, here and in `position`. Tried by `map`: what its closure is inferred to promise is out of reach of a proof here.
     let k = position(part(table, sheet), place, index as usize)?;
     Some(sheet.start as usize + k)
 }
@@ -77,13 +77,10 @@ fn last<'r, X, Y>(rows: &'r [Row<X, Y>], place: u32) -> Option<&'r Row<X, Y>>
 fn position<X, Y>(rows: &[Row<X, Y>], place: u32, index: usize) -> Option<usize>
     ensures { MatchOption result (length (rows_at place rows.now) ≤ index) (λ k. Position rows.now place index k) }
 {
-    rows.iter()
+    let (k, _) = rows
+        .iter()
         .enumerate()
         .filter(|(_, row)| row.end == place)
-        .nth(index)
-        .map(
-            |(k, _)|
-                ensures { result ≡ k }
-            { k },
-        )
+        .nth(index)?;
+    Some(k)
 }

@@ -1,4 +1,4 @@
-ghost use Rattle.std.specs.Prelude.{◌≡◌, ℕ, ◌≤◌, ◌↔◌, length, take, Some, IfSome, ◌<◌, ◌^◌, Decides, option_map, slice_get};
+ghost use Rattle.std.specs.Prelude.{◌≡◌, ℕ, ◌↔◌, length, Some, IfSome, ◌<◌, ◌^◌, Decides, option_map, slice_get};
 ghost use Rattle.rows.specs.Sound.{Made, Fits, LawfulAt, SheetSound, Sound};
 
 use crate::{Row, Sheet, Source};
@@ -73,8 +73,8 @@ impl<A: Criterion, B: Criterion> Check<'_, A, B> {
 }
 
 // Whether the table has the used rows, and every row of every sheet may stand where it does.
-// The two criteria are two parameters, and so are the numbers of places and roads, which need not be a network's: the public
-// signature stays, and a struct or a network would ask more of callers.
+// The two criteria stay two parameters, and so do the numbers of places and roads, which need not be a network's: a struct of both or
+// a network would ask more of callers.
 pub fn sound<A: Criterion, B: Criterion>(
     a: &A,
     b: &B,

@@ -1,4 +1,4 @@
-ghost use Rattle.std.specs.Prelude.{◌≡◌, ◌+◌, ◌<◌, length, None, MatchBool, slice_index_or};
+ghost use Rattle.std.specs.Prelude.{◌≡◌, ◌+◌, ◌<◌, None, MatchBool, slice_index_or};
 ghost use Rattle.frontiers.specs.Frontiers.{Linked, Built, Passing, Tested, Shown, Weighed, Outdone, Foremost, Standing, Follows, Tried, Held, Enters, Kept, Newest, Renewed, Older, Ready};
 ghost use Rattle.frontiers.specs.Links.{linked_prop};
 ghost use Rattle.trips.specs.Plans.{Numbered};
@@ -14,7 +14,8 @@ use rows::{Row, Source};
 // A search that has a row more, until its frontier is ready again: the criteria, the roads, the rows so far, which stand behind
 // `base` others in their table, their links, and the newest row and where it ends.
 // Its methods ask for Standing in their clauses: a ghost field must be a fact that has one proof at most, and the laws of a
-// criterion may have several; between bars they would be one, and show nothing of what a place holds, which may have several too.
+// criterion may have several; between bars it would be one fact, but could prove nothing of what a place holds, as that may have
+// several proofs too.
 // That an offered row ends below 2,048 stands in clauses too: a row's own type knows no bound. Four of its fields are those of a
 // Search, and not a Search, so that clauses name them shortly.
 #[derive(Drop)]
@@ -112,7 +113,7 @@ impl<A: Criterion, B: Criterion> Renewal<'_, A, B> {
         ensures kept { Kept (A.Criterion.meaning self.now.first.now) (B.Criterion.meaning self.now.second.now) self.now.place best.old.rows best.new.rows }
         ensures held { Held (A.Criterion.meaning self.now.first.now) (B.Criterion.meaning self.now.second.now) self.now.roads.now self.now.base self.now.rows.now best.new.rows (λ _ k. k < j + 1) self.now.place }
     {
-        // A `while`, and no `for` over `successors`: its closure would have to say the clauses of `before` again.
+        // A `while`, and no `for` over `successors`, which tells no end: no such `for` is proved.
         let mut at = self.links.last_at(self.roads[j].start);
         while let Some(i) = at {
             self.try_row(best, i, j);

@@ -25,8 +25,8 @@ pub(crate) struct Search<'s, A: Criterion, B: Criterion> {
     pub(crate) base: u32,
 }
 
-// The frontier and the rows are lent to each method, and a search goes by the first n of them: both are the caller's, and a struct
-// that lent them could have no ghost field, so that what is known of them would stand in clauses still.
+// The frontier and the rows are lent to each method, and a search goes by the first n of them: a struct that lent both would keep no
+// fact of them, since Searching may have several proofs, so that it would stand in clauses still.
 impl<A: Criterion, B: Criterion> Search<'_, A, B> {
     // The better of what was chosen among the first places and what the next one holds.
     fn better(
@@ -48,7 +48,8 @@ impl<A: Criterion, B: Criterion> Search<'_, A, B> {
         }
     }
 
-    // The best row that the places hold. A `for`, and no `fold`: its closure would have to say the three clauses of `better` again.
+    // The best row that the places hold. A `for`, and no `fold`: that the choice is the best so far is the loop's invariant, and would
+    // be a lemma by induction over the fold's steps.
     fn pick(&self, best: &Best<A::Value, B::Value>) -> Option<Row<A::Value, B::Value>>
         requires { self.now.places ≤ 2048 }
         ensures { Chosen (A.Criterion.meaning self.now.first.now) (B.Criterion.meaning self.now.second.now) self.now.places best.now.rows result }

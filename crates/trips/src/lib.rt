@@ -9,7 +9,8 @@ ghost use Rattle.trips.specs.Worths.{WorthOfBoth};
 
 use criteria::{Criterion, laws_stand};
 
-// Each function is a theorem: its body only brings the laws, and the two criteria are two parameters, as every caller has them.
+// Each function is a theorem: its body only brings the laws. The two criteria stay two parameters: a struct of both would ask more
+// of callers.
 
 // The value of two trips, one after the other, is the join of their values.
 pub fn worths_join<A: Criterion>(a: &A)

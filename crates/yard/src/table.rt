@@ -1,6 +1,6 @@
 ghost use Rattle.yard.specs.Table.{Table};
 
-// The pages of the yard are those of the table.
+// A theorem: its contract is the statement. The pages of the yard are those of the table.
 pub fn yard_stands()
     ensures { Table }
 {}

@@ -9,7 +9,7 @@ use crate::{Draft, DraftFault, Network, Road, serves};
 pub const PLACES: usize = 2048;
 
 // The most roads.
-const ROADS: u32 = 16384;
+const ROADS: usize = 16384;
 
 // A closing that was refused: the draft as it was, and why.
 #[derive(Debug, PartialEq, Eq, Drop)]
@@ -86,7 +86,7 @@ impl Draft {
         }
         let number = self.roads;
         let at = number as usize;
-        if number >= ROADS || at >= table.len() {
+        if at >= ROADS || at >= table.len() {
             return Err(DraftFault::RoadsFull);
         }
         // Not by `get_mut`: tried, and the library says nothing of what it leaves in the table.
@@ -99,6 +99,7 @@ impl Draft {
     pub fn close(self, table: &mut [Road]) -> Result<Network, Unclosed>
         ensures { Closed self table.old result table.new }
     {
+        // No `map_err` with `?`: its closure would take the draft, which is still read below.
         if let Err(fault) = self.check_closing(table) {
             return Err(Unclosed { draft: self, fault });
         }

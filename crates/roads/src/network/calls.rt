@@ -32,7 +32,7 @@ impl Network {
         if mark >= 4 {
             return Err(NetworkFault::NoSuchMark);
         }
-        // Not by `get_mut`, as in `find`.
+        // The mark not by `get_mut`, as in `find`.
         table[at].marks[mark as usize] = value;
         Ok(())
     }
@@ -60,8 +60,8 @@ impl Network {
         Ok(())
     }
 
-    // The table's entry of a road of this network. Its index, and not the entry by `get_mut`: the library says nothing of what that
-    // leaves in the table.
+    // The index of a road of this network in the table. No `&mut Road`: a Result that lends out of a slice can have no clause for what
+    // it leaves there, and the library's `get_mut` has none.
     fn find(&self, table: &[Road], road: u32) -> Result<usize, NetworkFault>
         ensures { Found self.now table.now road result }
     {
