@@ -3,7 +3,7 @@ ghost use Rattle.book.specs.Faults.{planner_number, told};
 
 use sweep::SweepFault;
 
-// Why a book refuses a call.
+// Why a book refuses a call. Like the other enums of refusals, but the cases are its own.
 #[derive(Clone, Copy, Debug, PartialEq, Eq)]
 pub enum PlannerFault {
     // The network has no place of that number.

@@ -9,7 +9,8 @@ use crate::criterion::Criterion;
 use crate::fault::CriterionFault;
 
 // What a trip is worth by Limit.
-// An enum of its own: by its derived order no limit lies above every mark, where the None of an Option would lie below.
+// An enum of its own: by its derived order no limit lies above every mark, where the None of an Option would lie below; and callers
+// name its cases.
 #[derive(Clone, Copy, Debug, PartialEq, Eq, PartialOrd, Ord)]
 pub enum LimitValue {
     // The least mark of the roads.

@@ -26,7 +26,7 @@ impl DraftFault {
     }
 }
 
-// Why a network refuses to alter a road.
+// Why a network refuses to alter a road. Like the other enums of refusals, but the cases are its own.
 #[derive(Clone, Copy, Debug, PartialEq, Eq)]
 pub enum NetworkFault {
     // A road has four marks.

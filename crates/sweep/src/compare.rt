@@ -14,7 +14,8 @@ pub(crate) fn as_good<B: Criterion>(b: &B, x: B::Value, y: B::Value) -> bool
 }
 
 // Whether the values of x are better than those of y or as good, where the first criterion decides and the second on a tie.
-// The rule of Lexical, said again: a Lexical asks that its first part is steady, and a sweep takes any two criteria.
+// The rule of Lexical, said again: a Lexical asks that its first part is steady, and a sweep takes any two criteria. They stay two
+// parameters: a struct of both would ask more of callers.
 pub fn ahead<A: Criterion, B: Criterion>(
     a: &A,
     b: &B,

@@ -5,7 +5,7 @@ use arrayvec::ArrayVec;
 use roads::Network;
 
 impl<A, B> Book<A, B> {
-    // A book on the network by two criteria, without a sheet.
+    // A book on the network by two criteria, without a sheet. They stay two parameters: a struct of both would ask more of callers.
     pub fn open(network: &Network, first: A, second: B) -> Book<A, B>
         ensures network { result.network ≡ network.now }
         ensures first { result.first ≡ first }
