@@ -1,7 +1,6 @@
-use Rattle.std.proofs.Common.{◌≡◌, [], Some, None, Ok, Err, subst, inr}
-use Rattle.std.proofs.lemmas.Result.{err_from_is_err_and}
-use Rattle.roadfile.specs.Reading.{Handed, Ended, left_of}
-use Rattle.roadfile.proofs.Progress.{shrinks, start, more, refused, extra, closes}
+use Rattle.std.proofs.Common.{◌≡◌, [], Some, None, Ok, subst}
+use Rattle.roadfile.specs.Reading.{Handed, left_of}
+use Rattle.roadfile.proofs.Progress.{start, more, closes}
 use Rattle.roadfile.proofs.loading.load.Goals as goal
 use Rattle.roadfile.proofs.loading.load.Goals.{In-Some, In_default}
 
@@ -15,23 +14,9 @@ none c = subst (λ o. Handed c.loop-item.reader (Ok o) c.next.new.self) c.in_def
 pub loop-item-init : goal.loop-item-init
 loop-item-init c = start c.args.file.now c.args.table.now _ _ c.in_ok-reader.ensures c.new-draft.ensures.places c.new-draft.ensures.roads
 
-pub returns-in_err-add_item : goal.returns-in_err-add_item
-returns-in_err-add_item c =
-    let p = err_from_is_err_and c.from_residual-in_err-add_item.result c.from_residual-in_err-add_item.ensures.1 in
-    rw (p.1, p.2) (inr (refused _ _ _ _ _ _ c.loop-item.invariant c.in-Some.item c.next.new.self c.add_item.new.draft c.add_item.new.table c.in_err-add_item.field-0.0 (some (goal.at.returns-in_err-add_item c).In-Some) c.in_err-add_item.ensures))
-
-pub loop-item-smaller : goal.loop-item-smaller
-loop-item-smaller c = shrinks c.loop-item.reader c.next.new.self _ (some (goal.at.loop-item-smaller c).In-Some)
-
 pub loop-item-preserved : goal.loop-item-preserved
 loop-item-preserved c =
     more _ _ _ _ _ _ c.loop-item.invariant c.in-Some.item c.next.new.self c.add_item.new.draft c.add_item.new.table (some (goal.at.loop-item-preserved c).In-Some) c.in_ok-add_item.ensures
-
-pub returns-in_err-finish : goal.returns-in_err-finish
-returns-in_err-finish c =
-    let p = err_from_is_err_and c.from_residual-in_err-finish.result c.from_residual-in_err-finish.ensures.1 in
-    let (off, same) = none (goal.at.returns-in_err-finish c).In_default in
-    rw (p.1, p.2) (inr (extra _ _ _ _ _ _ c.loop-item.invariant c.in_err-finish.field-0.0 off (subst (λ s. Ended s (Err c.in_err-finish.field-0.0)) same c.in_err-finish.ensures)))
 
 pub returns : goal.returns
 returns c =

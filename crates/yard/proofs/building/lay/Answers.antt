@@ -5,8 +5,3 @@ pub unwrap-requires : goal.unwrap-requires
 unwrap-requires c =
     let l = c.loop-start in
     (laid_from l.start-index l.draft l.table c.loop-start-test.true l.invariant c.road.result c.road.new.self c.road.new.table c.road.ensures).0
-
-pub loop-start-preserved : goal.loop-start-preserved
-loop-start-preserved c =
-    let l = c.loop-start in
-    (laid_from l.start-index l.draft l.table c.loop-start-test.true l.invariant c.road.result c.road.new.self c.road.new.table c.road.ensures).1

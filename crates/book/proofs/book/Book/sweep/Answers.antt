@@ -1,5 +1,4 @@
 use Rattle.std.proofs.Common.{◌-◌, ◌<◌, refl, sym, subst, arith}
-use Rattle.std.proofs.lemmas.Bool.{false≢true}
 use Rattle.book.specs.Sweeping.{OneMore, Entered}
 use Rattle.book.proofs.Entering.{turned_down, entered}
 use Rattle.book.proofs.book.Book.sweep.Goals as goal
@@ -21,24 +20,3 @@ returns g c =
     let new = c.enter.new.self in
     subst (λ n. Entered a b c.args.self.now new c.args.roads.now c.args.rows.now c.fill.new.rows c.args.origin (record { sheet = n; rows = c.in_ok-len.len })) (sym c.len-sheet.ensures.value)
     (entered a b c.args.self.now c.args.roads.now c.args.rows.now c.fill.new.rows c.args.origin (c.if-not-is_served.ensures.0 refl) inside c.if-is_full.ensures c.in_ok-len.len c.in_ok-len.ensures new one)
-
-pub enter-requires : goal.enter-requires
-enter-requires g c =
-    let k = c.args.self.now in
-    let f = c.in_ok-len.ensures in
-    record {
-      room = c.if-is_full.ensures;
-      start = refl;
-      few = omega (arith, f.swept.2.room, f.long, k.used_fits);
-      origin = omega (arith, c.if-origin-places.false, c.places-places.ensures);
-      reach = omega (arith, c.places-places.ensures, k.network.places_fit);
-    }
-
-pub returns-then-not-is_served : goal.returns-then-not-is_served
-returns-then-not-is_served g c = (λ s. false≢true (c.if-not-is_served.ensures.1 s), refl, refl)
-
-pub returns-then-origin-places : goal.returns-then-origin-places
-returns-then-origin-places g c = ((c.if-not-is_served.ensures.0 refl, omega (arith, c.if-origin-places.true, c.places-places.ensures)), refl, refl)
-
-pub returns-then-is_full : goal.returns-then-is_full
-returns-then-is_full g c = ((c.if-not-is_served.ensures.0 refl, omega (arith, c.if-origin-places.false, c.places-places.ensures), c.if-is_full.ensures), refl, refl)

@@ -1,5 +1,4 @@
 use Rattle.std.proofs.Common.{Some, nat_eq, sym, ap, ◌∙◌, arith}
-use Rattle.std.proofs.lemmas.Bool.Decides.{not_from_Decides}
 use Rattle.std.specs.Option.{option_eq}
 use Rattle.rows.specs.Sound.{LawfulRow}
 use Rattle.rows.proofs.Checks.{same_number, one_row, made_cut}
@@ -22,17 +21,4 @@ returns-then-is_fit g c =
     one_row t k r (LawfulRow a b s.places s.roads t c.args.reach k) c.eq.result (item_at t k r c.index-table-k.is c.requires) (
       λ e. record { fits = c.is_fit.ensures.0 c.if-is_fit.true; made = into (follows (told (sym is ∙ e))) },
       λ l. is ∙ tells (back (out l.made)),
-    )
-
-pub returns-else-is_fit : goal.returns-else-is_fit
-returns-else-is_fit g c =
-    let s = c.args.self.now in
-    let a = g.A.Criterion.meaning s.first.now in
-    let b = g.B.Criterion.meaning s.second.now in
-    let t = c.args.table.now in
-    let k = c.args.k in
-    let r = c.index-table-k.result in
-    one_row t k r (LawfulRow a b s.places s.roads t c.args.reach k) c.is_fit.result (item_at t k r c.index-table-k.is c.requires) (
-      λ e. record { fits = c.is_fit.ensures.0 e; made = absurd (not_from_Decides c.is_fit.result c.is_fit.ensures c.if-is_fit.false (c.is_fit.ensures.0 e)) },
-      λ l. c.is_fit.ensures.1 l.fits,
     )

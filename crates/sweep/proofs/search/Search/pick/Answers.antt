@@ -4,6 +4,3 @@ use Rattle.sweep.proofs.search.Search.pick.Goals as goal
 
 pub loop-held-preserved : goal.loop-held-preserved
 loop-held-preserved g c = grind (arith, get_or-take, get_or_default, length-take-le)
-
-pub returns : goal.returns
-returns g c = grind (arith, length-take-le)
