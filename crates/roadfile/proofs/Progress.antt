@@ -1,6 +1,5 @@
 -- How far a loading has come, and what each way out of it shows.
-use Rattle.std.proofs.Common.{◌≡◌, ℕ, ◌+◌, ◌-◌, ◌<◌, true, false, List, [], ◌∷◌, ◌++◌, map, length, take, drop, Some, Ok, Err, Result, sym, refl, ap, ◌∙◌, subst, inr, arith, length-append, length-drop}
-use Rattle.std.specs.List.{flat_map}
+use Rattle.std.proofs.Common.{◌≡◌, ℕ, ◌-◌, true, false, List, [], ◌∷◌, ◌++◌, map, length, take, drop, Some, Ok, Err, Result, sym, refl, ap, ◌∙◌, subst, inr, arith}
 use Rattle.std.proofs.lemmas.Bool.{false≢true, true≢false}
 use Rattle.std.proofs.lemmas.List.{take_at, drop_at}
 use Rattle.roads.specs.Drafts.{Closed}
@@ -14,11 +13,10 @@ use Rattle.roadfile.specs.declared.fault.FileFault.TheVariants as fault
 use Rattle.roadfile.specs.declared.fault.LoadFault.{LoadFault}
 use Rattle.roadfile.specs.declared.reader.Reader.{Reader}
 use Rattle.roadfile.specs.declared.reader.Item.{Item}
-use Rattle.roadfile.specs.Format.{Entry, place, road, remark, finish, entry, header, written, ends}
-use Rattle.roadfile.specs.Loading.{roads_of, count_of, Added, AddedAt, Fills, Stops, NotClosed, ClosedAt, place_of, Broken, Whole, Loaded}
-use Rattle.roadfile.specs.Reading.{Leads, left_of, offset_of, Opened, Handed, Ended}
-use Rattle.roadfile.proofs.Records.{leads_length}
-use Rattle.roadfile.proofs.Filling.{Drafted, adds, refuses, drafts_fault, fills_more}
+use Rattle.roadfile.specs.Format.{Entry, place, road, remark, finish, entry, written, ends}
+use Rattle.roadfile.specs.Loading.{roads_of, count_of, Added, Fills, Stops, NotClosed, ClosedAt, place_of, Broken, Whole, Loaded}
+use Rattle.roadfile.specs.Reading.{Leads, left_of, offset_of, Opened, Handed}
+use Rattle.roadfile.proofs.Filling.{Drafted, adds, fills_more}
 
 -- how far a loading of the file over the table t has come: the records before those that are left were added;
 -- where the reader is done, it has handed out the end record too, at the offset `at`
@@ -37,14 +35,6 @@ ends_is finish h = refl
 ends_is (place n) h = absurd (false≢true h)
 ends_is (road s e m) h = absurd (false≢true h)
 ends_is (remark x) h = absurd (false≢true h)
-
--- every record that is handed out leaves less
-pub shrinks : (s s' : Reader) (i : Item) → Handed s (Ok (Some i)) s' → length (left_of s') < length (left_of s)
-shrinks s s' i (_, l, _, rest, _, _) =
-    let size = length (written (entry i.record)) in
-    let within = leads_length (left_of s) (entry i.record) l in
-    let cut : length (left_of s') ≡ length (left_of s) - size = ap length rest ∙ length-drop size (left_of s) in
-    omega arith
 
 module _ (file : List ℕ) (t : List Road) where
   pub start : (s : Reader) (d : Draft) → Opened file (Ok s) → d.places ≡ 0 → d.roads ≡ 0 → Sofar file t s d t 0
@@ -93,34 +83,6 @@ module _ (file : List ℕ) (t : List Road) where
           done = λ _. (h.going on ∙ l.bytes ∙ ap (λ x. written e ++ x) (sym rest) ∙ ap (λ x. written x ++ left_of s') is, at_i ∙ offset_is on);
         } in
         elim (ends e) as (λ b. (ends e ≡ b → Sofar file t s' d' t'' i.offset)) [ true ↦ halt | false ↦ go ] refl
-
-    pub refused : (i : Item) (s' : Reader) (d' : Draft) (t'' : List Road) (f : LoadFault) → Handed s (Ok (Some i)) s' → AddedAt i.offset (entry i.record) d t' (Err f) d' t'' → Broken file t f.fault f.offset t''
-    refused i s' d' t'' f (on, l, at_i, rest, size, stop) (a, at_f) =
-        let e = entry i.record in
-        let (why, same) = refuses t e h.before d d' t' t'' h.left f.fault h.drafted (leads_here e on l) a in
-        let (g, is) = drafts_fault e d d' t' t'' f.fault a in
-        record {
-          before = h.before;
-          left = h.left;
-          fills = subst (λ x. Fills file t h.before h.left x) (sym same) h.fills;
-          stops = why;
-          told = at_f ∙ at_i ∙ offset_is on ∙ ap (λ x. place_of x file h.left) (sym is);
-        }
-
-    -- bytes behind the end record
-    pub extra : (f : LoadFault) → s.done ≡ true → Ended s (Err f) → Broken file t f.fault f.offset t'
-    extra f off (some, is, at_f) =
-        let (end, _) = h.done off in
-        let whole : length file ≡ length (header ++ flat_map written h.before) + length h.left = ap length h.fills.bytes ∙ length-append (header ++ flat_map written h.before) h.left in
-        let two : length h.left ≡ 2 + length (left_of s) = omega (arith, ap length end) in
-        let where_is : offset_of s ≡ length file - length h.left + 2 = omega (arith, h.size) in
-        record {
-          before = h.before;
-          left = h.left;
-          fills = h.fills;
-          stops = subst (Stops (length t) h.before h.left) (sym is) (record { proper = tt; bytes = end ∙ ap (λ x. written finish ++ x) (sym (ap (drop 2) end)) }, omega arith);
-          told = at_f ∙ where_is ∙ ap (λ x. place_of x file h.left) (sym is);
-        }
 
     -- what is left where nothing follows the end record
     left_finish : s.done ≡ true → left_of s ≡ [] → h.left ≡ written finish

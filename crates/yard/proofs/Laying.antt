@@ -1,7 +1,7 @@
 -- The yard's roads are laid one after the other, and no call is refused.
 use Rattle.std.proofs.Common.{◌≡◌, ℕ, ◌+◌, ◌<◌, ◌≤◌, Bool, true, ◌&&◌, ltb, List, [], ◌∷◌, ◌++◌, length, map, get_or, take, set, Ok, Err, Result, sym, refl, ap, ◌∙◌, subst, rules, arith, length-set}
 use Rattle.std.specs.Result.{IsOk}
-use Rattle.std.proofs.lemmas.List.{get_or-map, get_or-take, get_or_default, take_more, take_more_set, take_all}
+use Rattle.std.proofs.lemmas.List.{get_or-map, get_or-take, get_or_default, take_more, take_more_set}
 use Rattle.roads.proofs.Changes.{unread}
 use Rattle.roads.specs.Drafts.{Serving, LayingRefused, Laid, ClosingRefused, Closed}
 use Rattle.roads.specs.Tables.{Within}
@@ -10,7 +10,7 @@ use Rattle.roads.specs.declared.draft.calls.Unclosed.{Unclosed}
 use Rattle.roads.specs.declared.fault.DraftFault.{DraftFault}
 use Rattle.roads.specs.declared.network.Network.{Network}
 use Rattle.roads.specs.declared.road.Road.{Road}
-use Rattle.yard.specs.Building.{Begun, Built}
+use Rattle.yard.specs.Building.{Begun}
 use Rattle.yard.specs.Network.{yard_roads}
 use Rattle.yard.proofs.Lists.{every_at}
 
@@ -89,9 +89,3 @@ module _ (d : Draft) (t t' : List Road) (b : Begun 7 d t) where
   pub closes : (r : Result Network Unclosed) → Closed d t r t' → IsOk r
   closes (Ok n) h = refl
   closes (Err u) (refusal, _, _) = absurd (unrefused u.fault refusal)
-
-  -- and the yard is built
-  pub built : (n : Network) → Closed d t (Ok n) t' → Built n t'
-  built n (_, _, places, roads, open_is) =
-      let all : t ≡ yard_roads = sym (take_all 7 t (omega (arith, b.long))) ∙ b.same in
-      search rules
