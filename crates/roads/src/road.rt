@@ -24,7 +24,7 @@ impl Road {
 pub fn serves(table: &[Road], places: u32, roads: u32) -> bool
     ensures { Decides result (Serves places roads table.now) }
 {
-    // By `else`. Tried by `is_some_and`: the check does not find the proof through a closure in a closure.
+    // By `else`. Tried by `is_some_and`, with no answer by hand: the check does not find the proof through a closure in a closure.
     let Some(counted) = table.get(..roads as usize) else {
         return false;
     };

@@ -16,7 +16,7 @@ pub fn count_at<X, Y>(table: &[Row<X, Y>], sheet: &Sheet, place: u32) -> u32
 pub fn find_at<X, Y>(table: &[Row<X, Y>], sheet: &Sheet, place: u32, index: u32) -> Option<usize>
     ensures { MatchOption result (length (rows_at place (rows_of sheet.now table.now)) ≤ index) (λ k. StandsAt table.now sheet.now place index k) }
 {
-    // By `?`, here and in `position`. Tried by `map`: what its closure is inferred to promise is out of reach of a proof here.
+    // By `?`, here and in `position`: the closure of a `map` needs its contract written on it, which is no plainer.
     let k = position(part(table, sheet), place, index as usize)?;
     Some(sheet.start as usize + k)
 }
