@@ -29,9 +29,15 @@ all_decide P sheets true all = (λ _. λ i d lt. all i d (omega arith) lt, λ _.
 all_decide P sheets false (k, lt, fails) = denied (λ all. fails unread (all k unread lt))
 
 -- whether a number is there and is that one
-pub same_number : (o : Option ℕ) (n : ℕ) → Decides (option_eq nat_eq o (Some n)) (o ≡ Some n)
+same_number : (o : Option ℕ) (n : ℕ) → Decides (option_eq nat_eq o (Some n)) (o ≡ Some n)
 same_number None n = (λ e. absurd (false≢true e), λ e. absurd (none-some _ e))
 same_number (Some m) n = (λ e. ap Some (eqb-true m n e), λ e. eq-eqb m n (same_Some _ _ e))
+
+-- so whether it follows from a source
+pub number_made : {V W : Type 0} (o : Option ℕ) (n roads k : ℕ) (t : List (Row V W)) (s : Source) → ((m : ℕ) → (o ≡ Some m) ↔ Made roads t k m s) → Decides (option_eq nat_eq o (Some n)) (Made roads t k n s)
+number_made o n roads k t s f =
+    let (told, tells) = same_number o n in
+    (λ e. (f n).0 (told e), λ m. tells ((f n).1 m))
 
 module _ {V W : Type 0} (t : List (Row V W)) (k : ℕ) (within : k ≤ length t) where
   -- the first k rows stand where they do in the table

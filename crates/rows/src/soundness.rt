@@ -1,4 +1,4 @@
-ghost use Rattle.std.specs.Prelude.{◌≡◌, ℕ, ◌↔◌, length, Some, IfSome, ◌<◌, ◌^◌, Decides, option_map, slice_get};
+ghost use Rattle.std.specs.Prelude.{◌≡◌, ℕ, ◌↔◌, length, Some, IfSome, ◌<◌, ◌≤◌, ◌^◌, Decides, option_map, slice_get};
 ghost use Rattle.rows.specs.Sound.{Made, Fits, LawfulAt, SheetSound, Sound};
 
 use crate::{Row, Sheet, Source};
@@ -18,6 +18,14 @@ impl Source {
             }
             Source::Taken { row } => roads_of(earlier, row),
         }
+    }
+
+    // Whether that many roads follow from the source of a row behind these, where there are so many roads.
+    #[tactic(auto, using(crate::proofs::Checks::number_made))]
+    fn makes<X, Y>(self, earlier: &[Row<X, Y>], roads: u32, count: u32) -> bool
+        ensures { Decides result (Made roads earlier.now (length earlier.now) count self) }
+    {
+        self.count(earlier, roads) == Some(u64::from(count))
     }
 }
 
@@ -55,8 +63,7 @@ impl<A: Criterion, B: Criterion> Check<'_, A, B> {
         ensures { Decides result (LawfulAt (A.Criterion.meaning self.now.first.now) (B.Criterion.meaning self.now.second.now) self.now.places self.now.roads table.now reach k) }
     {
         let row = &table[k];
-        self.is_fit(reach, row)
-            && row.source.count(&table[..k], self.roads) == Some(u64::from(row.roads))
+        self.is_fit(reach, row) && row.source.makes(&table[..k], self.roads, row.roads)
     }
 
     // Whether every row of the sheet may stand where it does. By index, as a row is tested by what stands before it in the table.
@@ -92,8 +99,15 @@ pub fn sound<A: Criterion, B: Criterion>(
         places,
         roads,
     };
-    table.len() >= used as usize
+    has_rows(table, used)
         && sheets
             .iter()
             .all(|sheet| check.is_sheet_sound(table, sheet))
+}
+
+// Whether the table has that many rows.
+fn has_rows<X, Y>(table: &[Row<X, Y>], used: u32) -> bool
+    ensures { Decides result (used ≤ length table.now) }
+{
+    table.len() >= used as usize
 }

@@ -1,11 +1,16 @@
-use Rattle.std.proofs.Common.{length, nat_eq, ap, ◌∙◌, rules, tests}
-use Rattle.std.proofs.lemmas.Iterator.{YieldsList-from_slice}
-use Rattle.std.proofs.lemmas.Iterator.Consumers.{YieldsList-from_filter, count_from_yields_List}
-use Rattle.rows.proofs.Chains.{rows_pass}
+use Rattle.std.proofs.Common.{◌+◌, sym, refl, subst}
+use Rattle.rows.proofs.Sources.{item_at}
+use Rattle.rows.proofs.Counts.{Counted, counted_here, counted_not}
 use Rattle.rows.proofs.reading.tally.Goals as goal
+use Rattle.rows.proofs.reading.tally.Goals.{then-row-place, else-row-place}
 
-pub returns-clause-count : goal.returns-clause-count
-returns-clause-count g c =
-    let place = c.args.place in
-    count_from_yields_List c.filter.result c.count.result c.count.ensures.ran (YieldsList-from_filter _ (λ r. nat_eq r.end place) (YieldsList-from_slice c.args.rows.now (cc)) c.filter.ensures.closure (λ x b q k. search (rules, tests)))
-    ∙ ap length (rows_pass place c.args.rows.now)
+pub loop-row-preserved : goal.loop-row-preserved
+loop-row-preserved g c =
+    let t = c.args.rows.now in
+    let k = c.loop-row.row-index in
+    let r = c.row-item.result in
+    let at = item_at t k r c.row-item.is c.loop-row-test.true in
+    elim c.if-row-place.branch [
+      | then-row-place w ↦ subst (Counted c.args.place t (k + 1)) (sym w.count-is) (counted_here c.args.place t k (k + 1) c.loop-row.count r c.loop-row.invariant refl at w.if-row-place.true)
+      | else-row-place w ↦ subst (Counted c.args.place t (k + 1)) (sym w.count-is) (counted_not c.args.place t k (k + 1) c.loop-row.count r c.loop-row.invariant refl at w.if-row-place.false)
+    ]
