@@ -12,6 +12,17 @@ pub(crate) struct Best<X, Y> {
     ghost sized: { length rows ≡ 2048 },
 }
 
+impl<X: Copy, Y: Copy> Best<X, Y> {
+    // A row at no place.
+    pub(crate) fn new() -> Best<X, Y>
+        ensures { result.rows ≡ replicate 2048 None }
+    {
+        Best {
+            rows: [None; PLACES],
+        }
+    }
+}
+
 // Scratch space of a sweep, at the bounds of a network: what every place holds, and how the rows so far are linked.
 #[derive(Drop)]
 pub struct Frontier<X, Y> {
@@ -26,9 +37,7 @@ impl<X: Copy, Y: Copy> Frontier<X, Y> {
         ensures last { result.links.last ≡ replicate 2048 None }
     {
         Frontier {
-            best: Best {
-                rows: [None; PLACES],
-            },
+            best: Best::new(),
             links: Links::new(),
         }
     }

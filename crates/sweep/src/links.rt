@@ -24,6 +24,13 @@ impl Links {
         }
     }
 
+    // Takes the last row from every place.
+    pub(crate) fn clear(&mut self)
+        ensures { self.new.last ≡ replicate 2048 None }
+    {
+        self.last = [None; PLACES];
+    }
+
     // The last row at the place.
     pub(crate) fn last_at(&self, place: u32) -> Option<u32>
         requires { place < 2048 }

@@ -1,4 +1,5 @@
-ghost use Rattle.std.specs.Prelude.{◌≡◌, ℕ, ◌+◌, ◌<◌, ◌≤◌, List, length, take, None, Option, IfOk, IfErr, slice_index_or};
+ghost use Rattle.std.specs.Prelude.{◌≡◌, ℕ, ◌+◌, ◌<◌, ◌≤◌, List, length, take, Some, None, Option, IfOk, IfErr, MatchBool, slice_index_or, replicate};
+ghost use Rattle.std.specs.Option.{option_copied};
 ghost use Rattle.criteria.specs.Meaning.{Laws};
 ghost use Rattle.growth.specs.Complete.{EmptyRow};
 ghost use Rattle.growth.specs.Sourced.{Sourced};
@@ -28,23 +29,20 @@ pub(crate) struct Search<'s, A: Criterion, B: Criterion> {
 // The frontier and the rows are lent to each method, and a search goes by the first n of them: a struct that lent both would keep no
 // fact of them, since Searching may have several proofs, so that it would stand in clauses still.
 impl<A: Criterion, B: Criterion> Search<'_, A, B> {
-    // The better of what was chosen among the first places and what the next one holds.
-    fn better(
+    // The better of what was chosen among the first places and what the next one holds. Lent, and not rows: a choice that is copied at
+    // each place takes several times as long as the look at an empty place.
+    fn better<'r>(
         &self,
-        choice: Option<Row<A::Value, B::Value>>,
-        held: Option<Row<A::Value, B::Value>>,
-    ) -> Option<Row<A::Value, B::Value>>
+        choice: Option<&'r Row<A::Value, B::Value>>,
+        held: &'r Row<A::Value, B::Value>,
+    ) -> &'r Row<A::Value, B::Value>
         requires first_laws { Laws (A.Criterion.meaning self.now.first.now) }
         requires second_laws { Laws (B.Criterion.meaning self.now.second.now) }
-        ensures { (n : ℕ) (best : List (Option (Row A.Value B.Value))) → slice_index_or best n None ≡ held → Chosen (A.Criterion.meaning self.now.first.now) (B.Criterion.meaning self.now.second.now) n best choice → Chosen (A.Criterion.meaning self.now.first.now) (B.Criterion.meaning self.now.second.now) (n + 1) best result }
+        ensures { (n : ℕ) (best : List (Option (Row A.Value B.Value))) → slice_index_or best n None ≡ Some held.now → Chosen (A.Criterion.meaning self.now.first.now) (B.Criterion.meaning self.now.second.now) n best (option_copied choice.entry) → Chosen (A.Criterion.meaning self.now.first.now) (B.Criterion.meaning self.now.second.now) (n + 1) best (Some result.now) }
     {
-        match (choice, held) {
-            (Some(x), Some(y)) => Some(if ahead(self.first, self.second, &x, &y) {
-                x
-            } else {
-                y
-            }),
-            (choice, held) => choice.or(held),
+        match choice {
+            Some(row) if ahead(self.first, self.second, row, held) => row,
+            _ => held,
         }
     }
 
@@ -58,9 +56,11 @@ impl<A: Criterion, B: Criterion> Search<'_, A, B> {
         laws_stand(self.second);
         let mut choice = None;
         for held in &best.rows[..self.places as usize] {
-            choice = self.better(choice, *held);
+            if let Some(row) = held {
+                choice = Some(self.better(choice, row));
+            }
         }
-        choice
+        choice.copied()
     }
 
     // After a row was added at the place: every place holds the best uncovered extension into it again.
@@ -108,7 +108,7 @@ impl<A: Criterion, B: Criterion> Search<'_, A, B> {
         let Some(row) = self.pick(&frontier.best) else {
             return Ok(false);
         };
-        if n as usize >= rows.len() {
+        if is_full(n, rows.len()) {
             return Err(SweepFault::RowsFull);
         }
         // Not by `get_mut`: the library says nothing of what that leaves in the table.
@@ -153,6 +153,15 @@ impl<A: Criterion, B: Criterion> Search<'_, A, B> {
         }
     }
 
+    // Empties the frontier. What the links say of each row before it stays, as only that of a row that was added is read.
+    fn clear(&self, frontier: &mut Frontier<A::Value, B::Value>)
+        ensures best { frontier.new.best.rows ≡ replicate 2048 None }
+        ensures last { frontier.new.links.last ≡ replicate 2048 None }
+    {
+        frontier.best = Best::new();
+        frontier.links.clear();
+    }
+
     // Writes the row of the empty trip, and makes the frontier of that one row.
     fn begin(
         &self,
@@ -164,7 +173,7 @@ impl<A: Criterion, B: Criterion> Search<'_, A, B> {
         ensures stands { Searching (A.Criterion.meaning self.now.first.now) (B.Criterion.meaning self.now.second.now) self.now.roads.now self.now.places self.now.origin self.now.base (take 1 rows.new) frontier.new.best.rows frontier.new.links.last frontier.new.links.prev }
         ensures sourced { Sourced (length self.now.roads.now) self.now.base (take 1 rows.new) }
     {
-        *frontier = Frontier::new();
+        self.clear(frontier);
         rows[0] = self.empty_row();
         frontier.links.link(self.origin, 0);
         self.renew(frontier, rows, 0, self.origin);
@@ -187,4 +196,11 @@ impl<A: Criterion, B: Criterion> Search<'_, A, B> {
         self.begin(frontier, rows);
         self.climb(frontier, rows)
     }
+}
+
+// Whether a table with room for so many rows has none left behind n rows.
+fn is_full(n: u32, room: usize) -> bool
+    ensures { MatchBool result (room ≤ n) (n < room) }
+{
+    n as usize >= room
 }

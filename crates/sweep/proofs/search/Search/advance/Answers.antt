@@ -14,11 +14,11 @@ returns-in_default-clause-advanced g c =
     let f = c.args.frontier.now in
     (refl, step_none (g.A.Criterion.meaning s.first.now) (g.B.Criterion.meaning s.second.now) s.roads.now s.places s.origin s.base c.args.rows.now c.args.n f.best.rows f.links.last f.links.prev c.requires.searching c.requires.within c.in_default.ensures)
 
-pub returns-then-n-rows-clause-advanced : goal.returns-then-n-rows-clause-advanced
-returns-then-n-rows-clause-advanced g c =
+pub returns-then-is_full-clause-advanced : goal.returns-then-is_full-clause-advanced
+returns-then-is_full-clause-advanced g c =
     let s = c.args.self.now in
     let f = c.args.frontier.now in
-    (refl, (c.if-n-rows.true, (refl, (c.in-Some.row, step_next (g.A.Criterion.meaning s.first.now) (g.B.Criterion.meaning s.second.now) s.roads.now s.places s.origin s.base c.args.rows.now c.args.n f.best.rows f.links.last f.links.prev c.requires.searching c.requires.within c.in-Some.row c.in-Some.ensures))))
+    (refl, (c.if-is_full.ensures, (refl, (c.in-Some.row, step_next (g.A.Criterion.meaning s.first.now) (g.B.Criterion.meaning s.second.now) s.roads.now s.places s.origin s.base c.args.rows.now c.args.n f.best.rows f.links.last f.links.prev c.requires.searching c.requires.within c.in-Some.row c.in-Some.ensures))))
 
 pub link-requires-clause-low : goal.link-requires-clause-low
 link-requires-clause-low g c =
@@ -34,12 +34,12 @@ forward g c =
     let a = g.A.Criterion.meaning s.first.now in
     let b = g.B.Criterion.meaning s.second.now in
     forward_linked a b s.roads.now s.places s.origin s.base c.link.ensures.last c.link.ensures.prev
-    (step_forward a b s.roads.now s.places s.origin s.base c.args.rows.now c.args.n f.best.rows f.links.last f.links.prev c.requires.searching c.requires.within c.in-Some.row c.in-Some.ensures c.if-n-rows.false c.requires.room f.links.lasts f.links.prevs)
+    (step_forward a b s.roads.now s.places s.origin s.base c.args.rows.now c.args.n f.best.rows f.links.last f.links.prev c.requires.searching c.requires.within c.in-Some.row c.in-Some.ensures c.if-is_full.ensures c.requires.room f.links.lasts f.links.prevs)
 
 pub renew-requires : goal.renew-requires
 renew-requires g c =
     let f = forward g (goal.at.renew-requires g c).After-link in
-    (search rules, (omega (arith, length-set c.args.rows.now c.args.n c.in-Some.row, c.if-n-rows.false), (f.standing, (f.linked, (f.added, f.older)))))
+    (search rules, (omega (arith, length-set c.args.rows.now c.args.n c.in-Some.row, c.if-is_full.ensures), (f.standing, (f.linked, (f.added, f.older)))))
 
 pub returns-clause-advanced : goal.returns-clause-advanced
 returns-clause-advanced g c =
@@ -47,7 +47,7 @@ returns-clause-advanced g c =
     let a = g.A.Criterion.meaning s.first.now in
     let b = g.B.Criterion.meaning s.second.now in
     let rs = take (c.args.n + 1) (set c.args.rows.now c.args.n c.in-Some.row) in (
-      c.if-n-rows.false,
+      c.if-is_full.ensures,
       (
         take-set c.args.rows.now c.args.n c.in-Some.row,
         subst (λ l. Searching a b s.roads.now s.places s.origin s.base rs c.renew.new.frontier.best.rows l.last l.prev) (sym c.renew.ensures.links)
@@ -63,4 +63,4 @@ returns-clause-sourced g c = λ h.
     let b = g.B.Criterion.meaning s.second.now in
     let x = c.in-Some.row in
     let next = step_next a b s.roads.now s.places s.origin s.base c.args.rows.now c.args.n f.best.rows f.links.last f.links.prev c.requires.searching c.requires.within x c.in-Some.ensures in
-    subst (Sourced (length s.roads.now) s.base) (sym (take_more_set c.args.rows.now c.args.n x c.if-n-rows.false)) (sourced_next a b s.roads.now s.base (take c.args.n c.args.rows.now) x h next)
+    subst (Sourced (length s.roads.now) s.base) (sym (take_more_set c.args.rows.now c.args.n x c.if-is_full.ensures)) (sourced_next a b s.roads.now s.base (take c.args.n c.args.rows.now) x h next)
