@@ -1,6 +1,5 @@
 -- The line that tells why there is no list of places, and the text of either.
 use Rattle.std.specs.Prelude.{ℕ, List, Ok, Err, Result}
-use Rattle.arrayvec.specs.ArrayString.{ArrayString}
 use Rattle.book.specs.Faults.{planner_number}
 use Rattle.lines.specs.Text.{text}
 use Rattle.lines.specs.declared.line.Line.{Line}
@@ -14,7 +13,7 @@ abbrev pub fault_line : RecordFault → Line
 fault_line (File r) = refusal_line r
 fault_line (Planner f) = line.Refused (planner_number f) 0
 
--- the text of the lines of every place, or of the fault's line
-abbrev pub text_told : Result ArrayString RecordFault → List ℕ
-text_told (Ok places) = places.bytes
-text_told (Err f) = text (fault_line f)
+-- the text that stands there, or that of the fault's line
+abbrev pub text_told : Result (Unit {0}) RecordFault → List ℕ → List ℕ
+text_told (Ok _) out = out
+text_told (Err f) out = text (fault_line f)

@@ -1,6 +1,5 @@
 -- The whole record of a road file: each place with the rows of its page, or the refusal.
 use Rattle.std.specs.Prelude.{◌≡◌, ℕ, zero, suc, ◌<◌, ◌≤◌, false, ◌⊎◌, List, [], ◌∷◌, ◌++◌, length, replicate, Some, None, Ok, Err, Option, Result}
-use Rattle.arrayvec.specs.ArrayString.{ArrayString}
 use Rattle.criteria.specs.Limit.{limit_meaning}
 use Rattle.criteria.specs.Meaning.{Meaning}
 use Rattle.criteria.specs.Sum.{sum_meaning}
@@ -89,9 +88,9 @@ pub record Loads (file out : List ℕ) : Type 0 where
 abbrev pub Says : List ℕ → List ℕ → Type 0
 Says file out = ((65536 < length file) × (out ≡ text (refusal_line TooLong))) ⊎ ((length file ≤ 65536) × Loads file out)
 
--- the lines of every place, or the line of a fault, are the text for what a loading answered
-abbrev pub Noted : Result Network LoadFault → List Road → Result ArrayString RecordFault → Type 0
-Noted answer roads told = Answered answer roads (text_told told)
+-- the lines of every place, which stand there, or the line of a fault, are the text for what a loading answered
+abbrev pub Noted : Result Network LoadFault → List Road → Result (Unit {0}) RecordFault → List ℕ → Type 0
+Noted answer roads told out = Answered answer roads (text_told told out)
 
 -- the table holds the record of the file
 pub record Told (file table : List ℕ) (n : ℕ) : Type 0 where

@@ -1,5 +1,4 @@
-ghost use Rattle.std.specs.Prelude.{◌≡◌, Ok};
-ghost use Rattle.lines.specs.Text.{text};
+ghost use Rattle.std.specs.Prelude.{◌≡◌, [], Ok, IfErr};
 ghost use Rattle.roads.specs.Networks.{Serving};
 ghost use Rattle.printout.specs.Faults.{text_told};
 ghost use Rattle.printout.specs.Record.{Noted, Says, Told};
@@ -26,42 +25,46 @@ pub(crate) const TIME: u32 = 0;
 pub(crate) const LOAD: u32 = 2;
 
 // Fills the table with the record of a road file, and zeros after it; tells the record's length.
-// A table and a length, as in `fill` of `lines`.
+// A table and a length, as in `fill` of `lines`. One string, lent to each function: one that is handed back is copied at each step.
 pub fn write_record(file: &[u8], table: &mut [u8; RECORD]) -> usize
     ensures { Told file.now table.new result }
 {
-    fill(table, &record_of(file))
-}
-
-// The record of a road file: the lines of every place, or the line of a refusal.
-fn record_of(file: &[u8]) -> ArrayString<RECORD>
-    ensures { Says file.now result.bytes }
-{
-    places_of(file).unwrap_or_else(|fault| one_line(Line::from(fault)))
-}
-
-// A record of one line.
-fn one_line(line: Line) -> ArrayString<RECORD>
-    ensures { result.bytes ≡ text line }
-{
     let mut output = ArrayString::new();
-    push_line(&mut output, line);
-    output
+    push_record(&mut output, file);
+    fill(table, &output)
 }
 
-// Loads a road file, and tells the lines of every place.
-fn places_of(file: &[u8]) -> Result<ArrayString<RECORD>, RecordFault>
-    ensures { Says file.now (text_told result) }
+// Appends the record of a road file: the lines of every place, or the line of a refusal.
+fn push_record(output: &mut ArrayString<RECORD>, file: &[u8])
+    requires { output.old.bytes ≡ [] }
+    ensures { Says file.now output.new.bytes }
+{
+    if let Err(fault) = push_loaded(output, file) {
+        push_line(output, Line::from(fault));
+    }
+}
+
+// Loads a road file, and appends the lines of every place; a refusal appends nothing.
+fn push_loaded(output: &mut ArrayString<RECORD>, file: &[u8]) -> Result<(), RecordFault>
+    requires { output.old.bytes ≡ [] }
+    ensures says { Says file.now (text_told result output.new.bytes) }
+    ensures kept { IfErr result (λ _. output.new.bytes ≡ []) }
 {
     let mut roads = [BLANK; ROADS];
     let network = network_of(file, &mut roads)?;
-    swept(&network, &roads)
+    push_swept(output, &network, &roads)
 }
 
-// Sweeps from place 0, and tells the lines of every place.
-fn swept(network: &Network, roads: &[Road]) -> Result<ArrayString<RECORD>, RecordFault>
-    requires { Serving network.now roads.now }
-    ensures { Noted (Ok network.now) roads.now result }
+// Sweeps from place 0, and appends the lines of every place; a refusal appends nothing.
+fn push_swept(
+    output: &mut ArrayString<RECORD>,
+    network: &Network,
+    roads: &[Road],
+) -> Result<(), RecordFault>
+    requires serves { Serving network.now roads.now }
+    requires empty { output.old.bytes ≡ [] }
+    ensures noted { Noted (Ok network.now) roads.now result output.new.bytes }
+    ensures kept { IfErr result (λ _. output.new.bytes ≡ []) }
 {
     let time = Sum::new(TIME).unwrap();
     let load = Limit::new(LOAD).unwrap();
@@ -76,7 +79,6 @@ fn swept(network: &Network, roads: &[Road]) -> Result<ArrayString<RECORD>, Recor
         book: &book,
         rows: &rows,
     };
-    let mut output = ArrayString::new();
-    sheet.push_places(&mut output, network.places());
-    Ok(output)
+    sheet.push_places(output, network.places());
+    Ok(())
 }

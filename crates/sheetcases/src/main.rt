@@ -22,9 +22,10 @@ fn run(rt: &HostRuntime) -> anyhow::Result<()> {
     let mut input = Vec::new(rt.alloc());
     rt.stdin().read_to_end(&mut input)?;
     let mut rest = input.as_slice();
+    // One table for all records: `write_record` writes every byte of it.
+    let mut record = [0; RECORD];
     // No `for`: each turn is left the input behind its file.
     while let Some((file, behind)) = first_file(rest) {
-        let mut record = [0; RECORD];
         let length = write_record(file, &mut record);
         rt.stdout().write_all(&record[..length])?;
         rest = behind;

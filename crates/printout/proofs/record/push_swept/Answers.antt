@@ -7,8 +7,8 @@ use Rattle.printout.specs.Record.{by_load, by_time}
 use Rattle.printout.proofs.Sheets.{New, crowded_out, few, listed}
 use Rattle.printout.proofs.Told.{fault_told}
 use Rattle.printout.specs.declared.fault.RecordFault.TheVariants.{Planner}
-use Rattle.printout.proofs.record.swept.Goals as goal
-use Rattle.printout.proofs.record.swept.Goals.{After-open-book}
+use Rattle.printout.proofs.record.push_swept.Goals as goal
+use Rattle.printout.proofs.record.push_swept.Goals.{After-open-book}
 
 -- a criterion of a mark that there is reads that mark
 made_of : {T : Type 0} (column : T → ℕ) (n : ℕ) (r : Result T CriterionFault) (x : T) → Made column n r → r ≡ Ok x → column x ≡ n
@@ -43,21 +43,21 @@ push_places-requires-clause-room c =
     let rows' = c.sweep.new.rows in
     let rows = replicate 1024 c.unused-rows.result in
     let room = few n c.args.roads.now c.open-book.result rows (new o) k' rows' c.in_ok-sweep.field-0 c.in_ok-sweep.ensures (unique o) in
-    let empty : length c.new-output.result.bytes ≡ 0 = ap length c.new-output.ensures in
+    let empty : length c.args.output.now.bytes ≡ 0 = ap length c.requires.empty in
     rw c.places.ensures (omega (arith, room, empty, n.places_fit))
 
-pub returns-in_err-sweep : goal.returns-in_err-sweep
-returns-in_err-sweep c =
+pub returns-in_err-sweep-clause-noted : goal.returns-in_err-sweep-clause-noted
+returns-in_err-sweep-clause-noted c =
     let n = c.args.network.now in
-    let o = (goal.at.returns-in_err-sweep c).After-open-book in
+    let o = (goal.at.returns-in_err-sweep-clause-noted c).After-open-book in
     let f = c.in_err-sweep.field-0.0 in
-    let out = crowded_out n c.args.roads.now c.open-book.result (replicate 1024 c.unused-rows.result) (new o) c.requires f c.in_err-sweep.ensures.0 in
-    inr (rw (fault_told _ (Planner f) c.from_residual.ensures.1) out)
+    let out = crowded_out n c.args.roads.now c.open-book.result (replicate 1024 c.unused-rows.result) (new o) c.requires.serves f c.in_err-sweep.ensures.0 in
+    inr (rw (fault_told _ (Planner f) _ c.from_residual.ensures.1) out)
 
-pub returns : goal.returns
-returns c =
+pub returns-clause-noted : goal.returns-clause-noted
+returns-clause-noted c =
     let n = c.args.network.now in
-    let o = (goal.at.returns c).After-open-book in
+    let o = (goal.at.returns-clause-noted c).After-open-book in
     let k' = c.sweep.new.self in
     let rows' = c.sweep.new.rows in
-    inl (rw (c.push_places.ensures, c.new-output.ensures, c.places.ensures) (listed n c.args.roads.now c.open-book.result (replicate 1024 c.unused-rows.result) (new o) k' rows' c.in_ok-sweep.field-0 c.in_ok-sweep.ensures (unique o)))
+    inl (rw (c.push_places.ensures, c.requires.empty, c.places.ensures) (listed n c.args.roads.now c.open-book.result (replicate 1024 c.unused-rows.result) (new o) k' rows' c.in_ok-sweep.field-0 c.in_ok-sweep.ensures (unique o)))
