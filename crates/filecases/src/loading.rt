@@ -29,27 +29,28 @@ impl Loading {
     pub fn of(heap: Global, case: &Case) -> Result<Loading, AllocError> {
         let mut table = vec![in heap; UNSAID; case.room]?;
         let answer = load(case.file.as_slice(), table.as_mut_slice());
+        let (changed, sum) = changes(table.as_slice());
         Ok(Loading {
             answer,
-            changed: changed(table.as_slice()),
-            sum: weights(table.as_slice()),
+            changed,
+            sum,
         })
     }
 }
 
-// How many entries have changed.
-fn changed(table: &[Road]) -> usize {
-    table.iter().filter(|road| !untouched(road)).count()
-}
-
-// The sum of the weights of the entries that have changed: each weighs by its place in the table.
-fn weights(table: &[Road]) -> u64 {
+// How many entries have changed, and the sum of their weights: each weighs by its place in the table. Both in one pass: a table may
+// have many entries, and few that have changed.
+fn changes(table: &[Road]) -> (usize, u64) {
     table
         .iter()
-        .zip(1_u64..)
-        .filter(|(road, _)| !untouched(road))
-        .fold(0_u64, |sum, (road, place)| {
-            sum.wrapping_add(place.wrapping_mul(weight(road)))
+        .enumerate()
+        .filter(|(_, road)| !untouched(road))
+        .fold((0_usize, 0_u64), |(changed, sum), (i, road)| {
+            let place = (i as u64).wrapping_add(1);
+            (
+                changed.wrapping_add(1),
+                sum.wrapping_add(place.wrapping_mul(weight(road))),
+            )
         })
 }
 
