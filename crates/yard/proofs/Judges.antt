@@ -1,8 +1,8 @@
 -- Sum, Limit and Peak keep the laws, and a test tells the order of each.
-use Rattle.std.proofs.Common.{◌≡◌, ℕ, ◌<◌, Bool, true, false, leb, rules}
+use Rattle.std.proofs.Common.{◌≡◌, ℕ, ◌<◌, Bool, true, false, leb, refl, ap, arith, rules}
 use Rattle.criteria.specs.Meaning.{Meaning, Laws}
-use Rattle.criteria.specs.Limit.{limit_meaning}
-use Rattle.criteria.specs.Peak.{peak_meaning}
+use Rattle.criteria.specs.Limit.{limit_join, limit_meaning}
+use Rattle.criteria.specs.Peak.{peak_join, peak_meaning}
 use Rattle.criteria.specs.Sum.{sum_meaning}
 use Rattle.criteria.specs.declared.limit.LimitValue.{LimitValue}
 use Rattle.criteria.specs.declared.limit.LimitValue.TheVariants as limit
@@ -34,6 +34,13 @@ limit_test (limit.Mark m) (limit.Mark n) = leb n m
 pub limit_judge : (c : ℕ) → Judge (limit_meaning c) limit_test
 limit_judge c = search rules
 
+-- in whichever order two limits are joined
+limit_comm : (x y : LimitValue) → limit_join x y ≡ limit_join y x
+limit_comm limit.Unlimited limit.Unlimited = refl
+limit_comm limit.Unlimited (limit.Mark m) = refl
+limit_comm (limit.Mark l) limit.Unlimited = refl
+limit_comm (limit.Mark l) (limit.Mark m) = ap limit.Mark (omega arith)
+
 -- whether a peak is at least as good as another
 abbrev pub peak_test : PeakValue → PeakValue → Bool
 peak_test peak.Level y = true
@@ -43,3 +50,10 @@ peak_test (peak.Mark m) (peak.Mark n) = leb m n
 -- the judge of Peak: less is better
 pub peak_judge : (c : ℕ) → Judge (peak_meaning c) peak_test
 peak_judge c = search rules
+
+-- in whichever order two peaks are joined
+peak_comm : (x y : PeakValue) → peak_join x y ≡ peak_join y x
+peak_comm peak.Level peak.Level = refl
+peak_comm peak.Level (peak.Mark m) = refl
+peak_comm (peak.Mark l) peak.Level = refl
+peak_comm (peak.Mark l) (peak.Mark m) = ap peak.Mark (omega arith)

@@ -10,7 +10,7 @@ use Rattle.roads.specs.declared.draft.calls.Unclosed.{Unclosed}
 use Rattle.roads.specs.declared.fault.DraftFault.{DraftFault}
 use Rattle.roads.specs.declared.network.Network.{Network}
 use Rattle.roads.specs.declared.road.Road.{Road}
-use Rattle.yard.specs.Building.{Begun}
+use Rattle.yard.specs.Building.{Begun, entry_of}
 use Rattle.yard.specs.Network.{yard_roads}
 use Rattle.yard.proofs.Lists.{every_at}
 
@@ -38,10 +38,6 @@ begun_serves n d t few b = record {
       let same = sym (get_or-take n t i e low) ∙ ap (λ l. get_or l i e) b.same ∙ get_or-take n yard_roads i e low in
       within_yard d.places i e (get_or t i e) b.places (omega arith) same;
 }
-
--- what a road is laid from: where it starts and ends, and its marks
-abbrev entry_of : Road → ℕ × ℕ × List ℕ
-entry_of r = (r.start, r.end, r.marks)
 
 module _ (n : ℕ) (d : Draft) (t : List Road) (low : n < 7) (b : Begun n d t) where
   -- the next road to be laid

@@ -5,6 +5,10 @@ use Rattle.roads.specs.declared.network.Network.{Network}
 use Rattle.roads.specs.declared.road.Road.{Road}
 use Rattle.yard.specs.Network.{yard_roads}
 
+-- what a road is laid from: where it starts and ends, and its marks
+abbrev pub entry_of : Road → ℕ × ℕ × List ℕ
+entry_of r = (r.start, r.end, r.marks)
+
 -- a draft of the yard's places has the first n of its roads, in the front of a table that has room for all
 pub record Begun (n : ℕ) (d : Draft) (table : List Road) : Type 0 where
   pub places : d.places ≡ 4

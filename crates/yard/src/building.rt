@@ -1,5 +1,6 @@
-ghost use Rattle.std.specs.Prelude.{◌≡◌};
-ghost use Rattle.yard.specs.Building.{Begun, Built};
+ghost use Rattle.std.specs.Prelude.{◌≡◌, map};
+ghost use Rattle.yard.specs.Building.{Begun, Built, entry_of};
+ghost use Rattle.yard.specs.Network.{yard_roads};
 
 use roads::{Draft, Network, Road};
 
@@ -38,12 +39,19 @@ fn places() -> Draft
     draft
 }
 
+// The roads, so that a contract says that they are the yard's.
+fn roads() -> [(u32, u32, [u32; 4]); 7]
+    ensures { result ≡ map entry_of yard_roads }
+{
+    ROADS
+}
+
 // Adds the roads of the yard to the draft, in their order.
 fn lay(draft: &mut Draft, table: &mut [Road; 7])
     requires { Begun 0 draft.old table.old }
     ensures { Begun 7 draft.new table.new }
 {
-    for (start, end, marks) in ROADS {
+    for (start, end, marks) in roads() {
         draft.road(table, start, end, marks).unwrap();
     }
 }

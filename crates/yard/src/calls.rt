@@ -1,5 +1,6 @@
-ghost use Rattle.std.specs.Prelude.{◌≡◌, length};
-ghost use Rattle.yard.specs.Calls.{Opened, Swept, swept_into, read_at};
+ghost use Rattle.std.specs.Prelude.{◌≡◌, length, MatchResult};
+ghost use Rattle.book.specs.Reading.{RowThere, RowRefused};
+ghost use Rattle.yard.specs.Calls.{Opened, Swept, swept_into, read_at, by_time, by_load};
 
 use crate::building::build;
 use book::{Added, Book, PlannerFault};
@@ -41,6 +42,18 @@ pub fn sweep_yard(
     list(frontier, rows).map(|(_, added)| added)
 }
 
+// The row of that index among those of sheet 0 that end at the place.
+fn look<'r>(
+    book: &Book<Sum, Limit>,
+    rows: &'r [Row<SumValue, LimitValue>],
+    place: u32,
+    index: u32,
+) -> Result<&'r Row<SumValue, LimitValue>, PlannerFault>
+    ensures { MatchResult result (λ x. RowThere (by_time book.now) (by_load book.now) book.now rows.now 0 place index x.now) (λ f. RowRefused (by_time book.now) (by_load book.now) book.now rows.now 0 place index f) }
+{
+    book.row(rows, 0, place, index)
+}
+
 // The time and the limit of the row of that index at the place, of the sweep from place 0.
 pub fn row_of_yard(place: u32, index: u32) -> Result<(SumValue, LimitValue), PlannerFault>
     ensures { result ≡ read_at place index }
@@ -49,6 +62,6 @@ pub fn row_of_yard(place: u32, index: u32) -> Result<(SumValue, LimitValue), Pla
     let unused = Row::unused(SumValue { total: 0 }, LimitValue::Unlimited);
     let mut rows = [unused; 6];
     let (book, _) = list(&mut frontier, &mut rows)?;
-    let row = book.row(&rows, 0, place, index)?;
+    let row = look(&book, &rows, place, index)?;
     Ok((row.first, row.second))
 }
