@@ -22,7 +22,7 @@ impl DraftFault {
     pub fn number(&self) -> u32
         ensures { result ≡ draft_number self.now }
     {
-        *self as u32
+        *self as u32 // 6 to 9, or 22
     }
 }
 
@@ -42,6 +42,6 @@ impl NetworkFault {
     pub fn number(&self) -> u32
         ensures { result ≡ network_number self.now }
     {
-        *self as u32
+        *self as u32 // 10, 11 or 22
     }
 }
