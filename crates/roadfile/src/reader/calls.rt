@@ -26,7 +26,7 @@ impl<'a> Reader<'a> {
     }
 
     // The next record, or a fault; nothing after the end record or a fault.
-    // Inlined: what it answers is large, and as a call of its own it doubled the time of a reading.
+    // Inlined: what it answers is large, and a call of its own for each record takes nearly twice the instructions.
     #[inline]
     pub fn next(&mut self) -> Result<Option<Item<'a>>, LoadFault>
         ensures { Handed self.old result self.new }
