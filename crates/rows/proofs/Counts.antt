@@ -31,15 +31,45 @@ module _ {V W : Type 0} where
     pub is : n ≡ length (rows_at place (take i xs))
     pub few : n ≤ i
 
+  -- the first j rows have one row of the place more than the first i, or as many
+  more_here : (place : ℕ) (xs : List (Row V W)) (i j : ℕ) (r : Row V W) → j ≡ i + 1 → RowAt xs i r → r.end ≡ place → rows_at place (take j xs) ≡ rows_at place (take i xs) ++ r ∷ []
+  more_here place xs i j r s at e = ap (λ k. rows_at place (take k xs)) s ∙ one_more place xs i r at ∙ ap (λ l. rows_at place (take i xs) ++ l) (alone_here place r e)
+
+  more_not : (place : ℕ) (xs : List (Row V W)) (i j : ℕ) (r : Row V W) → j ≡ i + 1 → RowAt xs i r → (r.end ≡ place → ⊥) → rows_at place (take j xs) ≡ rows_at place (take i xs)
+  more_not place xs i j r s at e = ap (λ k. rows_at place (take k xs)) s ∙ one_more place xs i r at ∙ ap (λ l. rows_at place (take i xs) ++ l) (alone_not place r e) ∙ append-nil (rows_at place (take i xs))
+
   pub counted_here : (place : ℕ) (xs : List (Row V W)) (i j n : ℕ) (r : Row V W) → Counted place xs i n → j ≡ i + 1 → RowAt xs i r → r.end ≡ place → Counted place xs j (n + 1)
-  counted_here place xs i j n r c s at e =
-      let more : rows_at place (take j xs) ≡ rows_at place (take i xs) ++ r ∷ [] = ap (λ k. rows_at place (take k xs)) s ∙ one_more place xs i r at ∙ ap (λ l. rows_at place (take i xs) ++ l) (alone_here place r e) in
-      record { is = omega (arith, ap length more, length_push (rows_at place (take i xs)) r, c.is); few = omega (arith, c.few) }
+  counted_here place xs i j n r c s at e = record { is = omega (arith, ap length (more_here place xs i j r s at e), length_push (rows_at place (take i xs)) r, c.is); few = omega (arith, c.few) }
 
   pub counted_not : (place : ℕ) (xs : List (Row V W)) (i j n : ℕ) (r : Row V W) → Counted place xs i n → j ≡ i + 1 → RowAt xs i r → (r.end ≡ place → ⊥) → Counted place xs j n
-  counted_not place xs i j n r c s at e =
-      let more : rows_at place (take j xs) ≡ rows_at place (take i xs) = ap (λ k. rows_at place (take k xs)) s ∙ one_more place xs i r at ∙ ap (λ l. rows_at place (take i xs) ++ l) (alone_not place r e) ∙ append-nil (rows_at place (take i xs)) in
-      record { is = c.is ∙ ap length (sym more); few = omega (arith, c.few) }
+  counted_not place xs i j n r c s at e = record { is = c.is ∙ ap length (sym (more_not place xs i j r s at e)); few = omega (arith, c.few) }
+
+  -- the last of the first i rows that end at the place is that before row n; there is none where n is 0
+  pub record LastBefore (place : ℕ) (xs : List (Row V W)) (i n : ℕ) : Type 0 where
+    pub few : n ≤ i
+    pub none : n ≡ 0 → length (rows_at place (take i xs)) ≡ 0
+    pub some : (k : ℕ) → n ≡ k + 1 → (r : Row V W) × RowAt xs k r × RowAt (rows_at place (take i xs)) (length (rows_at place (take i xs)) - 1) r
+
+  pub last_here : (place : ℕ) (xs : List (Row V W)) (i j : ℕ) (r : Row V W) → j ≡ i + 1 → RowAt xs i r → r.end ≡ place → LastBefore place xs j (i + 1)
+  last_here place xs i j r s at e =
+      let front = rows_at place (take i xs) in
+      let here : RowAt (rows_at place (take j xs)) (length (rows_at place (take j xs)) - 1) r =
+      subst (λ l. RowAt l (length l - 1) r) (sym (more_here place xs i j r s at e))
+      (omega (arith, length_push front r), λ d. get_or_at front r [] d (length (front ++ r ∷ []) - 1) (omega (arith, length_push front r))) in
+      record {
+        few = omega (arith, s);
+        none = λ z. absurd (omega (arith, z));
+        some = λ k same. (r, subst (λ m. RowAt xs m r) (omega (arith, same)) at, here);
+      }
+
+  pub last_not : (place : ℕ) (xs : List (Row V W)) (i j n : ℕ) (r : Row V W) → LastBefore place xs i n → j ≡ i + 1 → RowAt xs i r → (r.end ≡ place → ⊥) → LastBefore place xs j n
+  last_not place xs i j n r l s at e =
+      let same : rows_at place (take i xs) ≡ rows_at place (take j xs) = sym (more_not place xs i j r s at e) in
+      record {
+        few = omega (arith, s, l.few);
+        none = λ z. ap length (sym same) ∙ l.none z;
+        some = λ k is. let (x, stands, last) = l.some k is in (x, stands, subst (λ all. RowAt all (length all - 1) x) same last);
+      }
 
   -- the row behind n others of its place is that of index n
   pub among_at : (place : ℕ) (xs : List (Row V W)) (i n : ℕ) (r : Row V W) → Counted place xs i n → RowAt xs i r → r.end ≡ place → RowAt (rows_at place xs) n r

@@ -68,9 +68,18 @@ fn tally<X, Y>(rows: &[Row<X, Y>], place: u32) -> usize
 
 // The last of the rows that end at the place.
 fn last<'r, X, Y>(rows: &'r [Row<X, Y>], place: u32) -> Option<&'r Row<X, Y>>
+    requires { length rows.now < 2 ^ 32 }
     ensures { MatchOption result (length (rows_at place rows.now) ≡ 0) (λ x. RowAt (rows_at place rows.now) (length (rows_at place rows.now) - 1) x.now) }
 {
-    rows.iter().filter(|row| row.end == place).last()
+    // A loop over numbers, which takes no branch: `filter` with `last` takes up to twice the time. The last row so far stands just before
+    // `behind`, and 0 says that there is none.
+    let mut behind = 0;
+    for (k, row) in rows.iter().enumerate() {
+        let here = if row.end == place { k as u32 + 1 } else { 0 };
+        behind = here.max(behind);
+    }
+    let k = behind.checked_sub(1)?;
+    Some(&rows[k as usize])
 }
 
 // Which of the rows is the one of that index among those that end at the place.
